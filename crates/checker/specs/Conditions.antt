@@ -1,0 +1,75 @@
+-- Document 01, "The check": the conditions K1 to K6, as what is meant. Tests.antt has the test of each.
+use mathlib.Core.Path.{_≡_}
+use mathlib.Core.Bool.{true}
+use mathlib.Core.List.{List}
+use Prim.Native.Nat.{ℕ, suc, _+_, _*_, _-_, _<_}
+use Rattle.sets.specs.Sets.{has, meet, union, several}
+use Rattle.pack.specs.declared.Verdict.the-variants.{Good}
+use Rattle.pack.specs.Image.{terminals, productions, states, scanStates, classes, groups, dom, lhs, len, symbol, act, goto, move, acc, rej, poss, groupSet, validSet}
+use Rattle.pack.specs.Shape.{shape}
+use Rattle.checker.specs.Edges.{Edge, Back}
+
+-- Everything in a is in b.
+pub record Subset (a b : ℕ) : Type 0 where
+  pub each : (t : ℕ) → has a t ≡ 1 → has b t ≡ 1
+
+-- M = acc ∪ rej.
+abbrev pub matched : List ℕ → ℕ → ℕ
+matched img q = union (acc img q) (rej img q)
+
+-- Terminal t matches in scan state q, and so does one that outranks it.
+pub record Outranked (img : List ℕ) (q t : ℕ) : Type 0 where
+  pub matches : has (matched img q) t ≡ 1
+  pub by : ℕ
+  pub outranks : has (dom img t) by ≡ 1
+  pub matches-too : has (matched img q) by ≡ 1
+
+-- K1 of scan state q: "with M = acc ∪ rej, rej is exactly the t in M with dom(t) ∩ M nonempty".
+pub record K1 (img : List ℕ) (q : ℕ) : Type 0 where
+  pub rejected : (t : ℕ) → t < terminals img → has (rej img q) t ≡ 1 → Outranked img q t
+  pub outranked : (t : ℕ) → t < terminals img → Outranked img q t → has (rej img q) t ≡ 1
+
+-- K2 of scan state q: "M ⊆ poss, and poss of every state moved to ⊆ poss of q".
+pub record K2 (img : List ℕ) (q : ℕ) : Type 0 where
+  pub now : Subset (matched img q) (poss img q)
+  pub later : (c p : ℕ) → c < classes img → move img q c ≡ 1 + p → Subset (poss img p) (poss img q)
+
+-- K3 of parse state s and scan state q: where "acc(q) ∩ V(s) has more than one terminal" it equals a group.
+pub record K3 (img : List ℕ) (s q : ℕ) : Type 0 where
+  pub grouped : several (meet (acc img q) (validSet img s)) ≡ true
+      → (g : ℕ) × (g < groups img) × (groupSet img g ≡ meet (acc img q) (validSet img s))
+
+-- K4 of parse state v: "None leads to state 0; all edges into v carry one symbol."
+pub record K4 (img : List ℕ) (v : ℕ) : Type 0 where
+  pub not-start : (s x : ℕ) → Edge img s x v → v ≡ 0 → ⊥
+  pub one-symbol : (s x r y : ℕ) → Edge img s x v → Edge img r y v → x ≡ y
+
+-- Row s reduces by p.
+pub record Reduces (img : List ℕ) (s p : ℕ) : Type 0 where
+  pub column : ℕ
+  pub within : column < terminals img
+  pub cell : act img s column ≡ 3 + 2 * p
+
+-- K5 of parse state s and production p, where row s reduces by p: "go back len edges from s in every way. Before the i-th step
+-- back every state reached has the i-th symbol from the right on all its edges in, and is not 0. Every state reached at the end
+-- has a goto on lhs." After i steps it is the symbol number len - 1 - i from the left.
+pub record K5 (img : List ℕ) (s p : ℕ) : Type 0 where
+  pub not-start : (i u : ℕ) → i < len img p → Back img s i u → u ≡ 0 → ⊥
+  pub on-symbol : (i u r x : ℕ) → i < len img p → Back img s i u → Edge img r x u → x ≡ symbol img p (len img p - 1 - i)
+  pub has-goto : (u : ℕ) → Back img s (len img p) u → goto img u (lhs img p) ≡ 0 → ⊥
+
+-- K6 of parse state s, where it has an accept: "s is not 0, and every edge into it comes from state 0 on symbol 64."
+pub record K6 (img : List ℕ) (s : ℕ) : Type 0 where
+  pub not-start : s ≡ 0 → ⊥
+  pub from-start : (r x : ℕ) → Edge img r x s → r ≡ 0
+  pub on-start-symbol : (r x : ℕ) → Edge img r x s → x ≡ 64
+
+-- "A pack passes exactly when shape and the six listed conditions hold."
+pub record Passes (img : List ℕ) : Type 0 where
+  pub good : shape img ≡ Good
+  pub k1 : (q : ℕ) → q < scanStates img → K1 img q
+  pub k2 : (q : ℕ) → q < scanStates img → K2 img q
+  pub k3 : (s q : ℕ) → s < states img → q < scanStates img → K3 img s q
+  pub k4 : (v : ℕ) → v < states img → K4 img v
+  pub k5 : (s p : ℕ) → s < states img → p < productions img → Reduces img s p → K5 img s p
+  pub k6 : (s : ℕ) → s < states img → act img s 0 ≡ 1 → K6 img s

@@ -1,0 +1,4 @@
+pub mod Check
+pub mod Conditions
+pub mod Edges
+pub mod Tests

@@ -1,0 +1,209 @@
+-- Document 01, "The pack": the image, where each table stands in it, and each number in it by name.
+-- An image is the list of its 16-bit words. This is the one file that knows an offset.
+use mathlib.Core.Bool.{Bool, true, false}
+use mathlib.Core.List.{List, [], _∷_}
+use Prim.Native.Nat.{ℕ, zero, suc, _+_, _*_, _-_, _/_, _%_, _^_}
+use lib.Dec.{eqb, leb}
+use lib.ListN.{getD}
+use Rattle.sets.specs.Sets.{less, single}
+use Rattle.pack.specs.declared.Action.{Action}
+use Rattle.pack.specs.declared.Action.the-variants.{Error, Accept, Shift, Reduce}
+
+-- The word at a place; 0 where there is none.
+abbrev pub word : List ℕ → ℕ → ℕ
+word img i = getD img i 0
+
+-- "a set is four words, lowest first"
+unfoldable pub setAt : List ℕ → ℕ → ℕ
+setAt img i = word img i + word img (i + 1) * 65536 + word img (i + 2) * 4294967296 + word img (i + 3) * 281474976710656
+
+-- Sizes: T, N, P, S, Q, C, R and G, in the words 1 to 8.
+abbrev pub terminals : List ℕ → ℕ
+terminals img = word img 1
+
+abbrev pub nonterminals : List ℕ → ℕ
+nonterminals img = word img 2
+
+abbrev pub productions : List ℕ → ℕ
+productions img = word img 3
+
+abbrev pub states : List ℕ → ℕ
+states img = word img 4
+
+abbrev pub scanStates : List ℕ → ℕ
+scanStates img = word img 5
+
+abbrev pub classes : List ℕ → ℕ
+classes img = word img 6
+
+abbrev pub ranges : List ℕ → ℕ
+ranges img = word img 7
+
+abbrev pub groups : List ℕ → ℕ
+groups img = word img 8
+
+-- "T 1..64, N 1..32, P 1..128, S 1..128, Q 1..128, C 1..32, R 0..64, G 0..32": the limits of the size at word i.
+unfoldable pub leastSize : ℕ → ℕ
+leastSize i = getD (0 ∷ 1 ∷ 1 ∷ 1 ∷ 1 ∷ 1 ∷ 1 ∷ 0 ∷ 0 ∷ []) i 0
+
+unfoldable pub greatestSize : ℕ → ℕ
+greatestSize i = getD (0 ∷ 64 ∷ 32 ∷ 128 ∷ 128 ∷ 128 ∷ 32 ∷ 64 ∷ 32 ∷ []) i 0
+
+-- Where each table begins, in the order of the text form, and the length of the whole.
+abbrev pub layoutAt : ℕ
+layoutAt = 9
+
+abbrev pub domStart : ℕ
+domStart = 13
+
+abbrev pub prodStart : List ℕ → ℕ
+prodStart img = domStart + terminals img * 4
+
+abbrev pub actStart : List ℕ → ℕ
+actStart img = prodStart img + productions img * 16
+
+abbrev pub gotoStart : List ℕ → ℕ
+gotoStart img = actStart img + states img * terminals img
+
+abbrev pub classStart : List ℕ → ℕ
+classStart img = gotoStart img + states img * nonterminals img
+
+abbrev pub moveStart : List ℕ → ℕ
+moveStart img = classStart img + ranges img * 3
+
+abbrev pub scanStart : List ℕ → ℕ
+scanStart img = moveStart img + scanStates img * classes img
+
+abbrev pub groupStart : List ℕ → ℕ
+groupStart img = scanStart img + scanStates img * 12
+
+abbrev pub needed : List ℕ → ℕ
+needed img = groupStart img + groups img * 5
+
+-- Where the entry of a terminal, a production, a cell, a range, a scan state or a group stands.
+abbrev pub domAt : ℕ → ℕ
+domAt t = domStart + t * 4
+
+abbrev pub prodAt : List ℕ → ℕ → ℕ
+prodAt img p = prodStart img + p * 16
+
+abbrev pub actAt : List ℕ → ℕ → ℕ → ℕ
+actAt img s t = actStart img + (s * terminals img + t)
+
+abbrev pub gotoAt : List ℕ → ℕ → ℕ → ℕ
+gotoAt img s n = gotoStart img + (s * nonterminals img + n)
+
+abbrev pub rangeAt : List ℕ → ℕ → ℕ
+rangeAt img r = classStart img + r * 3
+
+abbrev pub moveAt : List ℕ → ℕ → ℕ → ℕ
+moveAt img q c = moveStart img + (q * classes img + c)
+
+abbrev pub scanAt : List ℕ → ℕ → ℕ
+scanAt img q = scanStart img + q * 12
+
+abbrev pub groupAt : List ℕ → ℕ → ℕ
+groupAt img g = groupStart img + g * 5
+
+-- The layout set, and "the terminals that outrank t".
+unfoldable pub layout : List ℕ → ℕ
+layout img = setAt img layoutAt
+
+unfoldable pub dom : List ℕ → ℕ → ℕ
+dom img t = setAt img (domAt t)
+
+-- "a production is 16 words (lhs, len, 14 symbols, unused ones 0)"
+unfoldable pub lhs : List ℕ → ℕ → ℕ
+lhs img p = word img (prodAt img p)
+
+unfoldable pub len : List ℕ → ℕ → ℕ
+len img p = word img (prodAt img p + 1)
+
+unfoldable pub symbol : List ℕ → ℕ → ℕ → ℕ
+symbol img p i = word img (prodAt img p + 2 + i)
+
+-- "Symbol numbers: terminal t is t, nonterminal n is 64+n."
+abbrev pub ofNonterminal : ℕ → ℕ
+ofNonterminal n = 64 + n
+
+-- The cells of the tables.
+unfoldable pub act : List ℕ → ℕ → ℕ → ℕ
+act img s t = word img (actAt img s t)
+
+unfoldable pub goto : List ℕ → ℕ → ℕ → ℕ
+goto img s n = word img (gotoAt img s n)
+
+unfoldable pub move : List ℕ → ℕ → ℕ → ℕ
+move img q c = word img (moveAt img q c)
+
+-- "act: 0 error, 1 accept, 2+2s shift to state s, 3+2p reduce by p"; "goto: 0 none, 1+s"; "move: 0 none, 1+q".
+unfoldable pub actionOf : ℕ → Action
+actionOf zero = Error
+actionOf (suc zero) = Accept
+actionOf (suc (suc c)) = elim (eqb (c % 2) 0) [ true ↦ Shift (c / 2) | false ↦ Reduce (c / 2) ]
+
+-- A range, lo to hi, of class c.
+unfoldable pub lo : List ℕ → ℕ → ℕ
+lo img r = word img (rangeAt img r)
+
+unfoldable pub hi : List ℕ → ℕ → ℕ
+hi img r = word img (rangeAt img r + 1)
+
+unfoldable pub rangeClass : List ℕ → ℕ → ℕ
+rangeClass img r = word img (rangeAt img r + 2)
+
+-- What scan state q accepts, what it rejects, and what is possible from it on.
+unfoldable pub acc : List ℕ → ℕ → ℕ
+acc img q = setAt img (scanAt img q)
+
+unfoldable pub rej : List ℕ → ℕ → ℕ
+rej img q = setAt img (scanAt img q + 4)
+
+unfoldable pub poss : List ℕ → ℕ → ℕ
+poss img q = setAt img (scanAt img q + 8)
+
+-- A group's set, and its chosen terminal.
+unfoldable pub groupSet : List ℕ → ℕ → ℕ
+groupSet img g = setAt img (groupAt img g)
+
+unfoldable pub chosen : List ℕ → ℕ → ℕ
+chosen img g = word img (groupAt img g + 4)
+
+-- The class of byte b, sought in n ranges from range r on. "A byte in no range has class 0."
+unfoldable pub classIn : List ℕ → ℕ → ℕ → ℕ → ℕ
+classIn img b zero r = 0
+classIn img b (suc n) r =
+    elim (leb (lo img r) b) [
+      | false ↦ classIn img b n (r + 1)
+      | true ↦ elim (leb b (hi img r)) [ true ↦ rangeClass img r | false ↦ classIn img b n (r + 1) ]
+    ]
+
+abbrev pub classOf : List ℕ → ℕ → ℕ
+classOf img b = classIn img b (ranges img) 0
+
+-- "A parse first fills a row of 256 classes": those of n bytes from b on, and of all bytes.
+unfoldable pub classRowFrom : List ℕ → ℕ → ℕ → List ℕ
+classRowFrom img zero b = []
+classRowFrom img (suc n) b = classOf img b ∷ classRowFrom img n (b + 1)
+
+abbrev pub classRow : List ℕ → List ℕ
+classRow img = classRowFrom img 256 0
+
+-- "V(s) is the set of terminals with a non-zero cell in row s": those of n columns from t on, and of all.
+unfoldable pub validFrom : List ℕ → ℕ → ℕ → ℕ → ℕ
+validFrom img s zero t = 0
+validFrom img s (suc n) t =
+    elim (act img s t) [
+      | zero ↦ validFrom img s n (t + 1)
+      | suc c ↦ single t + validFrom img s n (t + 1)
+    ]
+
+abbrev pub validSet : List ℕ → ℕ → ℕ
+validSet img s = validFrom img s (terminals img) 0
+
+-- All terminals but 0, the end of the text; and all but 0 and layout.
+abbrev pub tokens : List ℕ → ℕ
+tokens img = 2 ^ terminals img - 2
+
+abbrev pub tokensLessLayout : List ℕ → ℕ
+tokensLessLayout img = less (tokens img) (layout img)

@@ -1,0 +1,153 @@
+-- Document 01, "Shape, tested in this order, the place being the first wrong word".
+-- Each rule is the test of one word, or of one set, which "a set's place is its first word" makes one step.
+-- "A rule over several words or sets is charged to the last of them": it stands in the test of that one.
+use mathlib.Core.Bool.{Bool, true, false, _&&_}
+use mathlib.Core.List.{List}
+use Prim.Native.Nat.{ℕ, zero, suc, _+_, _-_, _/_, _%_, _^_, min}
+use lib.Dec.{eqb, leb, ltb}
+use lib.ListN.{length}
+use Rattle.sets.specs.Sets.{lacks, member, meet, isEmpty, several}
+use Rattle.pack.specs.declared.Verdict.{Verdict}
+use Rattle.pack.specs.declared.Verdict.the-variants.{Good, Wrong}
+use Rattle.pack.specs.declared.Action.{Action}
+use Rattle.pack.specs.declared.Action.the-variants.{Error, Accept, Shift, Reduce}
+use Rattle.pack.specs.Numbers.{done, wrongShape}
+use Rattle.pack.specs.Image.{word, terminals, nonterminals, productions, states, scanStates, classes, ranges, groups, leastSize, greatestSize, layoutAt, domAt, prodAt, actAt, gotoAt, rangeAt, moveAt, scanAt, groupAt, needed, layout, dom, lhs, len, symbol, act, goto, move, actionOf, lo, hi, rangeClass, acc, rej, poss, groupSet, chosen}
+
+-- The paper's numbers for a verdict: the code, and the word.
+unfoldable pub codeOf : Verdict → ℕ
+codeOf Good = done
+codeOf (Wrong place) = wrongShape
+
+unfoldable pub placeOf : Verdict → ℕ
+placeOf Good = 0
+placeOf (Wrong place) = place
+
+-- One rule: it holds, or this is the place that it is charged to.
+unfoldable pub rule : Bool → ℕ → Verdict
+rule holds place = elim holds [ true ↦ Good | false ↦ Wrong place ]
+
+-- Two tests, one after the other.
+unfoldable pub andThen : Verdict → Verdict → Verdict
+andThen first second = elim first [ Good ↦ second | Wrong place ↦ Wrong place ]
+
+-- The tests number i, i+1, .. one after the other, n of them.
+unfoldable pub each : (ℕ → Verdict) → ℕ → ℕ → Verdict
+each test zero i = Good
+each test (suc n) i = elim (test i) [ Good ↦ each test n (i + 1) | Wrong place ↦ Wrong place ]
+
+-- "sizes in range (a word that isn't there is wrong)": the size at word i.
+unfoldable pub sizeRule : List ℕ → ℕ → Verdict
+sizeRule img i = rule (ltb i (length img) && (leb (leastSize i) (word img i) && leb (word img i) (greatestSize i))) i
+
+-- "total length (place: the smaller of given and needed)"
+unfoldable pub lengthRule : List ℕ → Verdict
+lengthRule img = rule (eqb (length img) (needed img)) (min (length img) (needed img))
+
+-- "Sets have no bit T or above", and by its own rule each of them lacks bit 0, the end of the text.
+unfoldable pub fits : List ℕ → ℕ → Bool
+fits img set = ltb set (2 ^ terminals img) && lacks set 0
+
+-- "Layout lacks bit 0."
+unfoldable pub layoutRule : List ℕ → Verdict
+layoutRule img = rule (fits img (layout img)) layoutAt
+
+-- "dom(0) is empty, dom(t) lacks bits 0 and t."
+unfoldable pub domRight : List ℕ → ℕ → Bool
+domRight img zero = isEmpty (dom img 0)
+domRight img (suc t) = fits img (dom img (suc t)) && lacks (dom img (suc t)) (suc t)
+
+unfoldable pub domRule : List ℕ → ℕ → Verdict
+domRule img t = rule (domRight img t) (domAt t)
+
+-- "symbols are terminals 1..T-1 outside layout or 64..63+N"
+unfoldable pub isSymbol : List ℕ → ℕ → Bool
+isSymbol img x =
+    elim (ltb x (terminals img)) [
+      | true ↦ leb 1 x && lacks (layout img) x
+      | false ↦ leb 64 x && ltb x (64 + nonterminals img)
+    ]
+
+-- .. "and unused ones 0": the i-th of a production's 14 symbols.
+unfoldable pub symbolRule : List ℕ → ℕ → ℕ → Verdict
+symbolRule img p i =
+    rule (elim (ltb i (len img p)) [ true ↦ isSymbol img (symbol img p i) | false ↦ eqb (symbol img p i) 0 ])
+    (prodAt img p + 2 + i)
+
+-- "lhs < N; len 0..14"
+unfoldable pub prodRule : List ℕ → ℕ → Verdict
+prodRule img p =
+    andThen (rule (ltb (lhs img p) (nonterminals img)) (prodAt img p))
+    (andThen (rule (leb (len img p) 14) (prodAt img p + 1))
+    (each (symbolRule img p) 14 0))
+
+-- "Action codes name existing states and productions; accept only in column 0; no shift in column 0; layout columns all 0."
+unfoldable pub actRight : List ℕ → ℕ → Action → Bool
+actRight img t Error = true
+actRight img t Accept = eqb t 0
+actRight img t (Shift s) = leb 1 t && (ltb s (states img) && lacks (layout img) t)
+actRight img t (Reduce p) = ltb p (productions img) && lacks (layout img) t
+
+unfoldable pub actRule : List ℕ → ℕ → ℕ → Verdict
+actRule img s t = rule (actRight img t (actionOf (act img s t))) (actAt img s t)
+
+-- "goto ≤ S, move ≤ Q."
+unfoldable pub gotoRule : List ℕ → ℕ → ℕ → Verdict
+gotoRule img s n = rule (leb (goto img s n) (states img)) (gotoAt img s n)
+
+unfoldable pub moveRule : List ℕ → ℕ → ℕ → Verdict
+moveRule img q c = rule (leb (move img q c) (scanStates img)) (moveAt img q c)
+
+-- "lo ≤ hi ≤ 255, c < C, lo above the previous hi."
+unfoldable pub abovePrevious : List ℕ → ℕ → Bool
+abovePrevious img zero = true
+abovePrevious img (suc r) = ltb (hi img r) (lo img (suc r))
+
+unfoldable pub rangeRule : List ℕ → ℕ → Verdict
+rangeRule img r =
+    andThen (rule (abovePrevious img r) (rangeAt img r))
+    (andThen (rule (leb (lo img r) (hi img r) && leb (hi img r) 255) (rangeAt img r + 1))
+    (rule (ltb (rangeClass img r) (classes img)) (rangeAt img r + 2)))
+
+-- "acc, rej, poss lack bit 0; acc and rej share nothing; each is empty in scan state 0": acc and rej, that is.
+unfoldable pub emptyAtStart : ℕ → ℕ → Bool
+emptyAtStart zero set = isEmpty set
+emptyAtStart (suc q) set = true
+
+unfoldable pub scanRule : List ℕ → ℕ → Verdict
+scanRule img q =
+    andThen (rule (fits img (acc img q) && emptyAtStart q (acc img q)) (scanAt img q))
+    (andThen (rule (fits img (rej img q) && (emptyAtStart q (rej img q) && isEmpty (meet (acc img q) (rej img q)))) (scanAt img q + 4))
+    (rule (fits img (poss img q)) (scanAt img q + 8)))
+
+-- "its set equals no earlier group's": the set differs from those of n groups from g on.
+unfoldable pub differs : List ℕ → ℕ → ℕ → ℕ → Bool
+differs img set zero g = true
+differs img set (suc n) g = elim (eqb (groupSet img g) set) [ true ↦ false | false ↦ differs img set n (g + 1) ]
+
+-- "A group has at least two terminals, lacks bit 0, contains its chosen one".
+unfoldable pub groupRule : List ℕ → ℕ → Verdict
+groupRule img g =
+    andThen (rule (fits img (groupSet img g) && (several (groupSet img g) && differs img (groupSet img g) g 0)) (groupAt img g))
+    (rule (member (groupSet img g) (chosen img g)) (groupAt img g + 4))
+
+-- Word by word: the tables in their order, each by its rows.
+unfoldable pub tables : List ℕ → Verdict
+tables img =
+    andThen (layoutRule img)
+    (andThen (each (domRule img) (terminals img) 0)
+    (andThen (each (prodRule img) (productions img) 0)
+    (andThen (each (λ s. each (actRule img s) (terminals img) 0) (states img) 0)
+    (andThen (each (λ s. each (gotoRule img s) (nonterminals img) 0) (states img) 0)
+    (andThen (each (rangeRule img) (ranges img) 0)
+    (andThen (each (λ q. each (moveRule img q) (classes img) 0) (scanStates img) 0)
+    (andThen (each (scanRule img) (scanStates img) 0)
+    (each (groupRule img) (groups img) 0))))))))
+
+-- "word 0 is 1; sizes in range; total length; then word by word."
+unfoldable pub shape : List ℕ → Verdict
+shape img =
+    andThen (rule (eqb (word img 0) 1) 0)
+    (andThen (each (sizeRule img) 8 1)
+    (andThen (lengthRule img)
+    (tables img)))

@@ -1,0 +1,15 @@
+// The pack as an image: what stands where, and the shape.
+
+// What the shape test says: every word is right, or this is the place of the first wrong one.
+pub enum Verdict {
+    Good,
+    Wrong(usize),
+}
+
+// What a cell of the action table asks for.
+pub enum Action {
+    Error,
+    Accept,
+    Shift(usize),
+    Reduce(usize),
+}

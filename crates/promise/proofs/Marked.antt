@@ -1,0 +1,41 @@
+-- The table of marked cases holds, and the small pack's text and image give back each other: each is one computation of the
+-- definitions. Assumes nothing.
+use mathlib.Core.Path.{_≡_, refl}
+use mathlib.Core.List.{[]}
+use lib.Dec.{T}
+use lib.Count.{trailingZeros}
+use lib.ListN.{length}
+use Rattle.sets.specs.Sets.{has, member, lacks, isEmpty, subset, countBelow, several}
+use Rattle.pack.specs.Image.{setAt, leastSize, greatestSize, layout, dom, lhs, len, symbol, act, goto, move, actionOf, lo, hi, rangeClass, acc, rej, poss, groupSet, chosen, classIn, validFrom}
+use Rattle.pack.specs.Shape.{rule, andThen, each, sizeRule, lengthRule, fits, layoutRule, domRight, domRule, isSymbol, symbolRule, prodRule, actRight, actRule, gotoRule, moveRule, abovePrevious, rangeRule, emptyAtStart, scanRule, differs, groupRule, tables, shape}
+use Rattle.scan.specs.Scan.{remember, scanFrom}
+use Rattle.scan.specs.Token.{chosenIn, terminalOf}
+use Rattle.parse.specs.Parse.{skipFrom, rescan, choose, look, reduceBy, accept, perform, turn, settle, run, runAll, parse}
+use Rattle.checker.specs.Edges.{allBelow, someBelow, leastFrom, implies, isEdge, leads, onlyOn, sourcesFrom, reached}
+use Rattle.checker.specs.Tests.{outrankedFrom, k1, within, k2, k3, enters, entering, k4, reduces, steps, k5, k6}
+use Rattle.checker.specs.Check.{finding, least, find1, find2, find3, find4, find5, find6, report, check}
+use Rattle.text.specs.Fields.{isDigit, digitsFrom, numberIn, readNumber, hexDigit, hexFrom, readSet, readField, wordsOf, decimal, hexOf, hexWord, fieldText}
+use Rattle.text.specs.Form.{after, packLine, sizes, tablesOf, rowWidth}
+use Rattle.text.specs.Reader.{thenRead, expect, fieldThen, fields, zeros, symbolsOf, readRow, thenLines, asLine, readLines, readTables, limited, readHead, ended, readAll, Lines, all}
+use Rattle.text.specs.Writer.{fieldsText, rowText, linesText, tablesText, textOf}
+use Rattle.promise.specs.SmallPack.{small, small11, small12, small12too, joined, smallText}
+use Rattle.promise.specs.Marked.{cases, same, ofParse, ofCheck, right, allRight}
+
+-- Every marked case, variant and check.
+pub marked : T (allRight cases)
+unfolding trailingZeros has member lacks isEmpty subset countBelow several setAt leastSize greatestSize layout dom lhs len symbol act goto move actionOf lo hi rangeClass acc rej poss groupSet chosen classIn validFrom rule andThen each sizeRule lengthRule fits layoutRule domRight domRule isSymbol symbolRule prodRule actRight actRule gotoRule moveRule abovePrevious rangeRule emptyAtStart scanRule differs groupRule tables shape remember scanFrom chosenIn terminalOf skipFrom rescan choose look reduceBy accept perform turn settle run runAll parse allBelow someBelow leastFrom implies isEdge leads onlyOn sourcesFrom reached outrankedFrom k1 within k2 k3 enters entering k4 reduces steps k5 k6 finding least find1 find2 find3 find4 find5 find6 report check small small11 small12 small12too cases same ofParse ofCheck right allRight
+marked = tt
+
+-- "Its image has 189 words".
+pub words : length small ≡ 189
+unfolding small
+words = refl
+
+-- The writer's text of the image is the pack's text, and reading it gives the image.
+pub written : textOf small ≡ smallText
+unfolding isDigit digitsFrom numberIn readNumber hexDigit hexFrom readSet readField wordsOf decimal hexOf hexWord fieldText after packLine sizes tablesOf rowWidth fieldsText rowText linesText tablesText textOf small joined smallText
+written = refl
+
+pub read-back : readAll smallText ≡ all small []
+unfolding setAt leastSize greatestSize rule each sizeRule isDigit digitsFrom numberIn readNumber hexDigit hexFrom readSet readField wordsOf decimal hexOf hexWord fieldText after packLine sizes tablesOf rowWidth thenRead expect fieldThen fields zeros symbolsOf readRow thenLines asLine readLines readTables limited readHead ended readAll small joined smallText
+read-back = refl

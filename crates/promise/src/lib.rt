@@ -1,0 +1,1 @@
+// The promises that join the crates: the marked cases, and the theorems over all of them.

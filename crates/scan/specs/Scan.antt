@@ -1,0 +1,85 @@
+-- Document 01, "One scan", and the scan called by itself.
+use mathlib.Core.Bool.{Bool, true, false}
+use mathlib.Core.List.{List, [], _∷_}
+use Prim.Native.Nat.{ℕ, zero, suc, _+_, _-_, min}
+use lib.Dec.{leb, ltb}
+use lib.ListN.{length, drop}
+use Rattle.sets.specs.Sets.{meet, isEmpty}
+use Rattle.pack.specs.declared.Verdict.{Verdict}
+use Rattle.pack.specs.declared.Verdict.the-variants.{Good, Wrong}
+use Rattle.pack.specs.Numbers.{done, wrongShape, queryTooLong, spent, longestText}
+use Rattle.pack.specs.Image.{classOf, move, acc, rej, poss, tokens}
+use Rattle.pack.specs.Shape.{shape}
+use Rattle.scan.specs.declared.Remembered.{Remembered}
+use Rattle.scan.specs.declared.Stop.{Stop}
+use Rattle.scan.specs.declared.Scanned.{Scanned}
+
+-- No match.
+abbrev pub nothing : Remembered
+nothing = record { set = 0; length = 0 }
+
+-- "if acc ∩ V is not empty, remember it and the length; else if rej ∩ V is not empty, forget what was remembered"
+unfoldable pub remember : ℕ → ℕ → ℕ → Remembered → Remembered
+remember accepted rejected n before =
+    elim (isEmpty accepted) [
+      | false ↦ record { set = accepted; length = n }
+      | true ↦ elim (isEmpty rejected) [ false ↦ nothing | true ↦ before ]
+    ]
+
+-- "At the stop the remembered set and length are the result, or no match."
+abbrev pub stopped : Remembered → ℕ → Stop
+stopped kept n = record { spent = false; set = kept .set; length = kept .length; moves = n }
+
+-- "A move beyond the allowance": nothing is matched, and the moves made so far are the allowance.
+abbrev pub usedUp : ℕ → Stop
+usedUp n = record { spent = true; set = 0; length = 0; moves = n }
+
+-- The scan in state q after n moves, over the bytes that are left: "Stop if poss ∩ V is empty, or no byte is left,
+-- or there is no move. Otherwise take the move, which counts 1", and look at the new state.
+unfoldable pub scanFrom : List ℕ → ℕ → ℕ → List ℕ → ℕ → ℕ → Remembered → Stop
+scanFrom img v allowance [] q n kept = stopped kept n
+scanFrom img v allowance (b ∷ bytes) q n kept =
+    elim (isEmpty (meet (poss img q) v)) [
+      | true ↦ stopped kept n
+      | false ↦ elim (move img q (classOf img b)) [
+        | zero ↦ stopped kept n
+        | suc p ↦ elim (leb allowance n) [
+          | true ↦ usedUp n
+          | false ↦ scanFrom img v allowance bytes p (n + 1) (remember (meet (acc img p) v) (meet (rej img p) v) (n + 1) kept)
+        ]
+      ]
+    ]
+
+-- One scan: "a valid set V without bit 0, and the rest of the text from the place on. Begin in scan state 0."
+abbrev pub scan : List ℕ → ℕ → ℕ → List ℕ → Stop
+scan img v allowance bytes = scanFrom img v allowance bytes 0 0 nothing
+
+-- A refusal of the scan called by itself: fields not named are 0.
+abbrev pub refused : ℕ → ℕ → Scanned
+refused code place = record { code = code; place = place; set = 0; length = 0; moves = 0 }
+
+-- Its answer for what a scan from the place gives: 13 or 0. "With 0 the place is the start, and set and length are 0
+-- for no match."
+unfoldable pub answer : ℕ → Stop → Scanned
+answer place stop =
+    record {
+      code = elim (stop .spent) [ true ↦ spent | false ↦ done ];
+      place = place;
+      set = stop .set;
+      length = stop .length;
+      moves = stop .moves;
+    }
+
+-- "Called by itself, the scan takes an image, a text, a start, a set and an allowance". "A start past the text counts as
+-- its end; bit 0 and bits from T up are dropped from the set. Order: 6, 4, then 13 or 0."
+unfoldable pub scanAlone : List ℕ → List ℕ → ℕ → ℕ → ℕ → Scanned
+scanAlone img text start set allowance =
+    elim (ltb longestText (length text)) [
+      | true ↦ refused queryTooLong 0
+      | false ↦ elim (shape img) [
+        | Wrong place ↦ refused wrongShape place
+        | Good ↦
+            let place = min start (length text) in
+            answer place (scan img (meet set (tokens img)) allowance (drop place text))
+      ]
+    ]

@@ -1,0 +1,1 @@
+// Terminal sets as 64-bit numbers.

@@ -1,0 +1,28 @@
+-- What reading and writing give and leave: document 01, "Numbers given back".
+use mathlib.Core.Bool.{Bool, true, false}
+use mathlib.Core.List.{List, [], _++_}
+use Prim.Native.Nat.{ℕ}
+use lib.Dec.{ltb}
+use lib.ListN.{length, drop}
+use Rattle.pack.specs.Numbers.{done, roomTooSmall}
+use Rattle.text.specs.declared.Answer.{Answer}
+
+-- The answer, and the words or bytes written, which are none in a refusal.
+pub record Delivery : Type 0 where
+  pub answer : Answer
+  pub written : List ℕ
+
+abbrev pub refuse : ℕ → ℕ → Delivery
+refuse code number = record { answer = record { code = code; number = number }; written = [] }
+
+-- "room too small for the output" gives the "size needed"; done gives the "words or bytes written".
+unfoldable pub deliver : List ℕ → ℕ → Delivery
+deliver output room =
+    elim (ltb room (length output)) [
+      | true ↦ refuse roomTooSmall (length output)
+      | false ↦ record { answer = record { code = done; number = length output }; written = output }
+    ]
+
+-- They stand "at the front of the lent buffer, the rest untouched".
+abbrev pub bufferAfter : List ℕ → Delivery → List ℕ
+bufferAfter buffer d = d .written ++ drop (length (d .written)) buffer

@@ -1,0 +1,6 @@
+pub mod Bytes
+pub mod Delivery
+pub mod Fields
+pub mod Form
+pub mod Reader
+pub mod Writer

@@ -1,0 +1,54 @@
+-- Writing a pack text: "Writer: 4, 2, 3."
+use mathlib.Core.Bool.{Bool, true, false}
+use mathlib.Core.List.{List, [], _∷_, _++_}
+use Prim.Native.Nat.{ℕ, zero, suc, _+_, _*_}
+use lib.Dec.{ltb}
+use lib.ListN.{length, getD}
+use Rattle.pack.specs.declared.Verdict.{Verdict}
+use Rattle.pack.specs.declared.Verdict.the-variants.{Good, Wrong}
+use Rattle.pack.specs.Numbers.{textTooLong, wrongShape, longestText}
+use Rattle.pack.specs.Image.{layoutAt}
+use Rattle.pack.specs.Shape.{shape}
+use Rattle.text.specs.declared.Kind.{Kind}
+use Rattle.text.specs.declared.Kind.the-variants.{Number, Set}
+use Rattle.text.specs.declared.Row.{Row}
+use Rattle.text.specs.declared.Row.the-variants.{Numbers, Sets, Production, Group}
+use Rattle.text.specs.Delivery.{Delivery, refuse, deliver}
+use Rattle.text.specs.Fields.{fieldText, widthOf}
+use Rattle.text.specs.Form.{Table, newline, comma, after, packLine, sizes, tablesOf, rowWidth}
+
+-- So many fields of one kind from a place of the image on, split by commas, the last followed by `end`.
+unfoldable pub fieldsText : Kind → ℕ → ℕ → List ℕ → ℕ → List ℕ
+fieldsText kind zero end img at = []
+fieldsText kind (suc n) end img at = fieldText kind img at ++ (after n end ∷ fieldsText kind n end img (at + widthOf kind))
+
+-- What stands behind the `=` of a line.
+unfoldable pub rowText : Row → List ℕ → ℕ → List ℕ
+rowText (Numbers n) img at = fieldsText Number n newline img at
+rowText (Sets n) img at = fieldsText Set n newline img at
+rowText Production img at = fieldsText Number (2 + getD img (at + 1) 0) newline img at
+rowText Group img at = fieldsText Set 1 comma img at ++ fieldsText Number 1 newline img (at + 4)
+
+-- n lines of a table, and the tables, from a place of the image on.
+unfoldable pub linesText : List ℕ → Row → ℕ → List ℕ → ℕ → List ℕ
+linesText name row zero img at = []
+linesText name row (suc n) img at = (name ++ rowText row img at) ++ linesText name row n img (at + rowWidth row)
+
+unfoldable pub tablesText : List Table → List ℕ → ℕ → List ℕ
+tablesText [] img at = []
+tablesText (t ∷ tables) img at =
+    linesText (t .name) (t .row) (t .lines) img at ++ tablesText tables img (at + t .lines * rowWidth (t .row))
+
+-- The text of an image.
+unfoldable pub textOf : List ℕ → List ℕ
+textOf img = packLine ++ (linesText (sizes .name) (sizes .row) (sizes .lines) img 1 ++ tablesText (tablesOf img) img layoutAt)
+
+unfoldable pub write : List ℕ → List ℕ → Delivery
+write img buffer =
+    elim (shape img) [
+      | Wrong place ↦ refuse wrongShape place
+      | Good ↦ elim (ltb longestText (length (textOf img))) [
+        | true ↦ refuse textTooLong 0
+        | false ↦ deliver (textOf img) (length buffer)
+      ]
+    ]
