@@ -1,3 +1,4 @@
 pub mod Image
+pub mod Laid
 pub mod Numbers
 pub mod Shape

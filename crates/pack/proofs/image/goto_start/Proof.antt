@@ -1,0 +1,13 @@
+use native.Mathlib.Omega.{arith}
+use borrow.Author.Needs.{needs}
+use Rattle.pack.proofs.Laws.{times}
+use Rattle.pack.proofs.image.goto_start.Statement.{statement}
+use Rattle.pack.proofs.image.goto_start.Tie as tie
+
+pub goto-start-spec : {M : Type 1} → statement M
+goto-start-spec =
+    tie.close
+    (tie.spec (λ c κs. search needs) (λ c κs. search needs) (λ c κs. search needs)
+    (λ c. omega (arith, times (c .before .states .ensures) (c .terminals .ensures)))
+    (λ c. omega (arith, times (c .before .states .ensures) (c .terminals .ensures)))
+    (λ c. omega (arith, times (c .before .states .ensures) (c .terminals .ensures))))

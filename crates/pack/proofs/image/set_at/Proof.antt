@@ -1,0 +1,14 @@
+use borrow.Author.Needs.{needs}
+use Rattle.pack.specs.Image.{setAt}
+use Rattle.pack.proofs.image.set_at.Statement.{statement}
+use Rattle.pack.proofs.image.set_at.Tie as tie
+
+returns : tie.Need-returns
+unfolding setAt
+returns c = c .join .ensures
+
+pub set-at-spec : {M : Type 1} → statement M
+set-at-spec =
+    tie.close
+    (tie.spec (λ c. search needs) (λ c. search needs) (λ c. search needs) (λ c. search needs) (λ c. search needs) (λ c. search needs) (λ c. search needs)
+    (λ c. search needs) (λ c. search needs) (λ c. search needs) (λ c. search needs) (λ c κs. search needs) returns)
