@@ -12,7 +12,7 @@ use Rattle.pack.specs.declared.Verdict.the-variants.{Good, Wrong}
 use Rattle.pack.specs.declared.Action.{Action}
 use Rattle.pack.specs.declared.Action.the-variants.{Error, Accept, Shift, Reduce}
 use Rattle.pack.specs.Numbers.{done, wrongShape}
-use Rattle.pack.specs.Image.{word, terminals, nonterminals, productions, states, scanStates, classes, ranges, groups, leastSize, greatestSize, layoutAt, domAt, prodAt, actAt, gotoAt, rangeAt, moveAt, scanAt, groupAt, needed, layout, dom, lhs, len, symbol, act, goto, move, actionOf, lo, hi, rangeClass, acc, rej, poss, groupSet, chosen}
+use Rattle.pack.specs.Image.{word, terminals, nonterminals, productions, states, scanStates, classes, ranges, groups, leastSize, greatestSize, layoutAt, domAt, prodAt, actAt, gotoAt, rangeAt, moveAt, scanAt, groupAt, needed, layout, dom, lhs, len, symbol, act, actionOf, lo, hi, rangeClass, acc, rej, poss, groupSet, chosen}
 
 -- The paper's numbers for a verdict: the code, and the word.
 unfoldable pub codeOf : Verdict → ℕ
@@ -22,6 +22,11 @@ codeOf (Wrong place) = wrongShape
 unfoldable pub placeOf : Verdict → ℕ
 placeOf Good = 0
 placeOf (Wrong place) = place
+
+-- The verdict is that some word is wrong.
+unfoldable pub isWrong : Verdict → Bool
+isWrong Good = false
+isWrong (Wrong place) = true
 
 -- One rule: it holds, or this is the place that it is charged to.
 unfoldable pub rule : Bool → ℕ → Verdict
@@ -54,8 +59,7 @@ layoutRule img = rule (fits img (layout img)) layoutAt
 
 -- "dom(0) is empty, dom(t) lacks bits 0 and t."
 unfoldable pub domRight : List ℕ → ℕ → Bool
-domRight img zero = isEmpty (dom img 0)
-domRight img (suc t) = fits img (dom img (suc t)) && lacks (dom img (suc t)) (suc t)
+domRight img t = elim (eqb t 0) [ true ↦ isEmpty (dom img t) | false ↦ fits img (dom img t) && lacks (dom img t) t ]
 
 unfoldable pub domRule : List ℕ → ℕ → Verdict
 domRule img t = rule (domRight img t) (domAt t)
@@ -91,17 +95,13 @@ actRight img t (Reduce p) = ltb p (productions img) && lacks (layout img) t
 unfoldable pub actRule : List ℕ → ℕ → ℕ → Verdict
 actRule img s t = rule (actRight img t (actionOf (act img s t))) (actAt img s t)
 
--- "goto ≤ S, move ≤ Q."
-unfoldable pub gotoRule : List ℕ → ℕ → ℕ → Verdict
-gotoRule img s n = rule (leb (goto img s n) (states img)) (gotoAt img s n)
-
-unfoldable pub moveRule : List ℕ → ℕ → ℕ → Verdict
-moveRule img q c = rule (leb (move img q c) (scanStates img)) (moveAt img q c)
+-- "goto ≤ S, move ≤ Q": the word at a place is at most so much.
+unfoldable pub cellRule : List ℕ → ℕ → ℕ → Verdict
+cellRule img most at = rule (leb (word img at) most) at
 
 -- "lo ≤ hi ≤ 255, c < C, lo above the previous hi."
 unfoldable pub abovePrevious : List ℕ → ℕ → Bool
-abovePrevious img zero = true
-abovePrevious img (suc r) = ltb (hi img r) (lo img (suc r))
+abovePrevious img r = elim (eqb r 0) [ true ↦ true | false ↦ ltb (hi img (r - 1)) (lo img r) ]
 
 unfoldable pub rangeRule : List ℕ → ℕ → Verdict
 rangeRule img r =
@@ -111,8 +111,7 @@ rangeRule img r =
 
 -- "acc, rej, poss lack bit 0; acc and rej share nothing; each is empty in scan state 0": acc and rej, that is.
 unfoldable pub emptyAtStart : ℕ → ℕ → Bool
-emptyAtStart zero set = isEmpty set
-emptyAtStart (suc q) set = true
+emptyAtStart q set = elim (eqb q 0) [ true ↦ isEmpty set | false ↦ true ]
 
 unfoldable pub scanRule : List ℕ → ℕ → Verdict
 scanRule img q =
@@ -131,23 +130,29 @@ groupRule img g =
     andThen (rule (fits img (groupSet img g) && (several (groupSet img g) && differs img (groupSet img g) g 0)) (groupAt img g))
     (rule (member (groupSet img g) (chosen img g)) (groupAt img g + 4))
 
--- Word by word: the tables in their order, each by its rows.
-unfoldable pub tables : List ℕ → Verdict
-tables img =
+-- The tables of the parser in their order, word by word; then those of the scanner.
+unfoldable pub parserRules : List ℕ → Verdict
+parserRules img =
     andThen (layoutRule img)
     (andThen (each (domRule img) (terminals img) 0)
     (andThen (each (prodRule img) (productions img) 0)
     (andThen (each (λ s. each (actRule img s) (terminals img) 0) (states img) 0)
-    (andThen (each (λ s. each (gotoRule img s) (nonterminals img) 0) (states img) 0)
-    (andThen (each (rangeRule img) (ranges img) 0)
-    (andThen (each (λ q. each (moveRule img q) (classes img) 0) (scanStates img) 0)
-    (andThen (each (scanRule img) (scanStates img) 0)
-    (each (groupRule img) (groups img) 0))))))))
+    (each (λ s. each (λ n. cellRule img (states img) (gotoAt img s n)) (nonterminals img) 0) (states img) 0))))
 
--- "word 0 is 1; sizes in range; total length; then word by word."
-unfoldable pub shape : List ℕ → Verdict
-shape img =
+unfoldable pub scannerRules : List ℕ → Verdict
+scannerRules img =
+    andThen (each (rangeRule img) (ranges img) 0)
+    (andThen (each (λ q. each (λ c. cellRule img (scanStates img) (moveAt img q c)) (classes img) 0) (scanStates img) 0)
+    (andThen (each (scanRule img) (scanStates img) 0)
+    (each (groupRule img) (groups img) 0)))
+
+-- "word 0 is 1; sizes in range; total length": what the rest of the test leans on.
+unfoldable pub headRules : List ℕ → Verdict
+headRules img =
     andThen (rule (eqb (word img 0) 1) 0)
     (andThen (each (sizeRule img) 8 1)
-    (andThen (lengthRule img)
-    (tables img)))
+    (lengthRule img))
+
+-- "tested in this order": .. "then word by word".
+unfoldable pub shape : List ℕ → Verdict
+shape img = andThen (headRules img) (andThen (parserRules img) (scannerRules img))

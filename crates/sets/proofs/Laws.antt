@@ -1,14 +1,18 @@
 -- Laws of terminal sets, over any width k: from the numbers that the code computes to the terminals that a set has, and back.
 -- Assumes nothing.
 use mathlib.Core.Path.{_≡_, refl, sym, ap, ap₂, _∙_}
+use mathlib.Core.Bool.{Bool, true, false}
 use Prim.Native.Nat.{ℕ, zero, suc, _+_, _-_, _*_, _/_, _%_, _^_, _≤_, _<_, suc-le-suc, min, max}
-use native.Mathlib.Nat.{le-of-suc-le-suc, not-suc-le-zero, mod-lt, pow-suc, zero-div, zero-lt-suc, div-eq-of-lt}
+use native.Mathlib.Nat.{le-of-suc-le-suc, not-suc-le-zero, mod-lt, pow-suc, zero-div, zero-lt-suc, div-eq-of-lt, div-add-mod', zero-mul}
 use native.Mathlib.Numerals.{add-one, one-add}
 use native.Mathlib.Omega.{arith}
 use lib.Pow.{shr-shr, shr-lt, pow-pos, pow-mono}
 use lib.Bits.{bitAnd, bitOr, and-step, or-step, and-le-l}
 use lib.Count.{ones, onesIn, ones-step, trailingZeros, under}
-use Rattle.sets.specs.Sets.{has, countBelow, less}
+use lib.Arith.{lt-of-le-ne}
+use lib.Dec.{ltb}
+use borrow.Author.Tests.{eq-eqb, ne-eqb, eqb-true, eqb-false, ltb-true, ltb-false}
+use Rattle.sets.specs.Sets.{has, member, lacks, countBelow, less}
 
 -- A bit is 0 or 1.
 pub has-lt : (x t : ℕ) → has x t < 2
@@ -116,3 +120,26 @@ at-most-one (suc k) x zero (suc u) c l m e f = absurd (omega (arith, some-count 
 at-most-one (suc k) x (suc t) zero c l m e f = absurd (omega (arith, some-count k (x / 2) t (le-of-suc-le-suc l) (rw has-suc at e)))
 at-most-one (suc k) x (suc t) (suc u) c l m e f =
     ap suc (at-most-one k (x / 2) t u (omega arith) (le-of-suc-le-suc l) (le-of-suc-le-suc m) (rw has-suc at e) (rw has-suc at f))
+
+-- A terminal is in a set or lacking from it.
+pub in-lacks : (x t : ℕ) → member x t ≡ true → lacks x t ≡ false
+unfolding member lacks
+in-lacks x t e = let h : has x t ≡ 1 = eqb-true _ _ e in ne-eqb (has x t) 0 (λ z. omega arith)
+
+pub out-lacks : (x t : ℕ) → member x t ≡ false → lacks x t ≡ true
+unfolding member lacks
+out-lacks x t e = eq-eqb (has x t) 0 (omega (arith, lt-of-le-ne (le-of-suc-le-suc (has-lt x t)) (eqb-false _ _ e)))
+
+-- A number is below a power of two exactly where it is shifted away.
+pub shifted-away : (x k : ℕ) → x / 2 ^ k ≡ 0 → x < 2 ^ k
+shifted-away x k e = omega (arith, div-add-mod' x (2 ^ k), times-zero e, mod-lt x (pow-pos k))
+  where
+    times-zero : x / 2 ^ k ≡ 0 → x / 2 ^ k * 2 ^ k ≡ 0
+    times-zero z = rw (z, zero-mul (2 ^ k))
+
+pub not-shifted-away : (x k : ℕ) → (x / 2 ^ k ≡ 0 → ⊥) → 2 ^ k ≤ x
+not-shifted-away x k n = go (ltb x (2 ^ k)) refl
+  where
+    go : (b : Bool) → ltb x (2 ^ k) ≡ b → 2 ^ k ≤ x
+    go true e = absurd (n (div-eq-of-lt (ltb-true _ _ e)))
+    go false e = ltb-false _ _ e
