@@ -138,9 +138,14 @@ move img q c = word img (moveAt img q c)
 
 -- "act: 0 error, 1 accept, 2+2s shift to state s, 3+2p reduce by p"; "goto: 0 none, 1+s"; "move: 0 none, 1+q".
 unfoldable pub actionOf : ℕ → Action
-actionOf zero = Error
-actionOf (suc zero) = Accept
-actionOf (suc (suc c)) = elim (eqb (c % 2) 0) [ true ↦ Shift (c / 2) | false ↦ Reduce (c / 2) ]
+actionOf code =
+    elim (eqb code 0) [
+      | true ↦ Error
+      | false ↦ elim (eqb code 1) [
+        | true ↦ Accept
+        | false ↦ elim (eqb ((code - 2) % 2) 0) [ true ↦ Shift ((code - 2) / 2) | false ↦ Reduce ((code - 2) / 2) ]
+      ]
+    ]
 
 -- A range, lo to hi, of class c.
 unfoldable pub lo : List ℕ → ℕ → ℕ

@@ -1,4 +1,5 @@
 pub mod Image
 pub mod Laid
 pub mod Numbers
+pub mod Rows
 pub mod Shape

@@ -89,8 +89,8 @@ prodRule img p =
 unfoldable pub actRight : List ℕ → ℕ → Action → Bool
 actRight img t Error = true
 actRight img t Accept = eqb t 0
-actRight img t (Shift s) = leb 1 t && (ltb s (states img) && lacks (layout img) t)
-actRight img t (Reduce p) = ltb p (productions img) && lacks (layout img) t
+actRight img t (Shift s) = lacks (layout img) t && (leb 1 t && ltb s (states img))
+actRight img t (Reduce p) = lacks (layout img) t && ltb p (productions img)
 
 unfoldable pub actRule : List ℕ → ℕ → ℕ → Verdict
 actRule img s t = rule (actRight img t (actionOf (act img s t))) (actAt img s t)

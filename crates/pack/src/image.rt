@@ -2,7 +2,7 @@
 ghost use mathlib.Core.Path.{_≡_};
 ghost use Prim.Native.Nat.{ℕ, _+_, _*_, _<_, _≤_};
 ghost use lib.ListN.{length};
-ghost use Rattle.pack.specs.Image.{word, setAt, terminals, nonterminals, productions, states, scanStates, classes, ranges, groups, prodStart, actStart, gotoStart, classStart, moveStart, scanStart, groupStart, layout, dom, lhs, len, symbol, act, goto, move, lo, hi, rangeClass, acc, rej, poss, groupSet, chosen};
+ghost use Rattle.pack.specs.Image.{word, setAt, terminals, nonterminals, productions, states, scanStates, classes, ranges, groups, prodStart, actStart, actAt, gotoStart, classStart, moveStart, scanStart, groupStart, layout, dom, lhs, len, symbol, act, goto, move, lo, hi, rangeClass, acc, rej, poss, groupSet, chosen};
 ghost use Rattle.pack.specs.Laid.{Laid};
 
 fn wide(x: u16) -> usize
@@ -188,12 +188,21 @@ pub fn symbol(img: &[u16], p: usize, i: usize) -> usize
     word_at(img, prod_start(img) + p * 16 + 2 + i)
 }
 
+// Where the cell of a state and a terminal stands in the action table.
+pub fn act_at(img: &[u16], s: usize, t: usize) -> usize
+    requires { ⌜ Laid (now img) ⌝ }
+    requires { ⌜ (s < states (now img)) × (t < terminals (now img)) ⌝ }
+    ensures { λ r. ⌜ (r ≡ actAt (now (img .entry)) s t) × (r < length (now (img .entry))) ⌝ }
+{
+    act_start(img) + (s * terminals(img) + t)
+}
+
 pub fn act(img: &[u16], s: usize, t: usize) -> usize
     requires { ⌜ Laid (now img) ⌝ }
     requires { ⌜ (s < states (now img)) × (t < terminals (now img)) ⌝ }
     ensures { λ r. ⌜ r ≡ act (now (img .entry)) s t ⌝ }
 {
-    cell(img, act_start(img), terminals(img), s, t)
+    word_at(img, act_at(img, s, t))
 }
 
 pub fn goto(img: &[u16], s: usize, n: usize) -> usize
