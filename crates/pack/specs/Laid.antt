@@ -1,12 +1,13 @@
--- What the functions that read an image by name ask for: the sizes are within their limits, and the image is as long as they need.
--- No public entry point asks it: each tests the shape first.
+-- What the functions that read an image by name ask for. No public entry point asks it: each tests the shape first.
 use mathlib.Core.Path.{_≡_}
 use mathlib.Core.List.{List}
 use Prim.Native.Nat.{ℕ, _*_, _≤_}
 use lib.ListN.{length}
 use Rattle.pack.specs.Image.{terminals, nonterminals, productions, states, scanStates, classes, ranges, groups, needed}
 
-pub record Laid (img : List ℕ) : Type 0 where
+-- The sizes are there and within their limits.
+pub record Sized (img : List ℕ) : Type 0 where
+  pub there : 9 ≤ length img
   pub t-least : 1 ≤ terminals img
   pub t-most : terminals img ≤ 64
   pub n-least : 1 ≤ nonterminals img
@@ -24,4 +25,8 @@ pub record Laid (img : List ℕ) : Type 0 where
   pub act-cells : states img * terminals img ≤ 8192
   pub goto-cells : states img * nonterminals img ≤ 4096
   pub move-cells : scanStates img * classes img ≤ 4096
+
+-- The image is as long as its sizes need.
+pub record Laid (img : List ℕ) : Type 0 where
+  pub sized : Sized img
   pub whole : length img ≡ needed img

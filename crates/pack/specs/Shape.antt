@@ -99,6 +99,12 @@ actRule img s t = rule (actRight img t (actionOf (act img s t))) (actAt img s t)
 unfoldable pub cellRule : List ℕ → ℕ → ℕ → Verdict
 cellRule img most at = rule (leb (word img at) most) at
 
+unfoldable pub gotoRules : List ℕ → Verdict
+gotoRules img = each (λ s. each (λ n. cellRule img (states img) (gotoAt img s n)) (nonterminals img) 0) (states img) 0
+
+unfoldable pub moveRules : List ℕ → Verdict
+moveRules img = each (λ q. each (λ c. cellRule img (scanStates img) (moveAt img q c)) (classes img) 0) (scanStates img) 0
+
 -- "lo ≤ hi ≤ 255, c < C, lo above the previous hi."
 unfoldable pub abovePrevious : List ℕ → ℕ → Bool
 abovePrevious img r = elim (eqb r 0) [ true ↦ true | false ↦ ltb (hi img (r - 1)) (lo img r) ]
@@ -137,12 +143,12 @@ parserRules img =
     (andThen (each (domRule img) (terminals img) 0)
     (andThen (each (prodRule img) (productions img) 0)
     (andThen (each (λ s. each (actRule img s) (terminals img) 0) (states img) 0)
-    (each (λ s. each (λ n. cellRule img (states img) (gotoAt img s n)) (nonterminals img) 0) (states img) 0))))
+    (gotoRules img))))
 
 unfoldable pub scannerRules : List ℕ → Verdict
 scannerRules img =
     andThen (each (rangeRule img) (ranges img) 0)
-    (andThen (each (λ q. each (λ c. cellRule img (scanStates img) (moveAt img q c)) (classes img) 0) (scanStates img) 0)
+    (andThen (moveRules img)
     (andThen (each (scanRule img) (scanStates img) 0)
     (each (groupRule img) (groups img) 0)))
 

@@ -2,8 +2,8 @@
 ghost use mathlib.Core.Path.{_≡_};
 ghost use Prim.Native.Nat.{ℕ, _+_, _*_, _<_, _≤_};
 ghost use lib.ListN.{length};
-ghost use Rattle.pack.specs.Image.{word, setAt, terminals, nonterminals, productions, states, scanStates, classes, ranges, groups, prodStart, actStart, actAt, gotoStart, classStart, moveStart, scanStart, groupStart, layout, dom, lhs, len, symbol, act, goto, move, lo, hi, rangeClass, acc, rej, poss, groupSet, chosen};
-ghost use Rattle.pack.specs.Laid.{Laid};
+ghost use Rattle.pack.specs.Image.{word, setAt, terminals, nonterminals, productions, states, scanStates, classes, ranges, groups, prodStart, actStart, actAt, gotoStart, classStart, moveStart, scanStart, groupStart, needed, layout, dom, lhs, len, symbol, act, goto, move, lo, hi, rangeClass, acc, rej, poss, groupSet, chosen};
+ghost use Rattle.pack.specs.Laid.{Sized, Laid};
 
 fn wide(x: u16) -> usize
     ensures { λ r. ⌜ r ≡ x ⌝ }
@@ -93,52 +93,60 @@ pub fn groups(img: &[u16]) -> usize
 
 // Where each table begins.
 pub fn prod_start(img: &[u16]) -> usize
-    requires { ⌜ Laid (now img) ⌝ }
+    requires { ⌜ Sized (now img) ⌝ }
     ensures { λ r. ⌜ r ≡ prodStart (now (img .entry)) ⌝ }
 {
     13 + terminals(img) * 4
 }
 
 pub fn act_start(img: &[u16]) -> usize
-    requires { ⌜ Laid (now img) ⌝ }
+    requires { ⌜ Sized (now img) ⌝ }
     ensures { λ r. ⌜ r ≡ actStart (now (img .entry)) ⌝ }
 {
     prod_start(img) + productions(img) * 16
 }
 
 pub fn goto_start(img: &[u16]) -> usize
-    requires { ⌜ Laid (now img) ⌝ }
+    requires { ⌜ Sized (now img) ⌝ }
     ensures { λ r. ⌜ r ≡ gotoStart (now (img .entry)) ⌝ }
 {
     act_start(img) + states(img) * terminals(img)
 }
 
 pub fn class_start(img: &[u16]) -> usize
-    requires { ⌜ Laid (now img) ⌝ }
+    requires { ⌜ Sized (now img) ⌝ }
     ensures { λ r. ⌜ r ≡ classStart (now (img .entry)) ⌝ }
 {
     goto_start(img) + states(img) * nonterminals(img)
 }
 
 pub fn move_start(img: &[u16]) -> usize
-    requires { ⌜ Laid (now img) ⌝ }
+    requires { ⌜ Sized (now img) ⌝ }
     ensures { λ r. ⌜ r ≡ moveStart (now (img .entry)) ⌝ }
 {
     class_start(img) + ranges(img) * 3
 }
 
 pub fn scan_start(img: &[u16]) -> usize
-    requires { ⌜ Laid (now img) ⌝ }
+    requires { ⌜ Sized (now img) ⌝ }
     ensures { λ r. ⌜ r ≡ scanStart (now (img .entry)) ⌝ }
 {
     move_start(img) + scan_states(img) * classes(img)
 }
 
 pub fn group_start(img: &[u16]) -> usize
-    requires { ⌜ Laid (now img) ⌝ }
+    requires { ⌜ Sized (now img) ⌝ }
     ensures { λ r. ⌜ r ≡ groupStart (now (img .entry)) ⌝ }
 {
     scan_start(img) + scan_states(img) * 12
+}
+
+// How long the image must be.
+pub fn needed(img: &[u16]) -> usize
+    requires { ⌜ Sized (now img) ⌝ }
+    ensures { λ r. ⌜ r ≡ needed (now (img .entry)) ⌝ }
+{
+    group_start(img) + groups(img) * 5
 }
 
 // The word in a row and a column of a table.

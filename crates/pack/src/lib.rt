@@ -2,7 +2,9 @@
 
 ghost use mathlib.Core.Path.{_≡_};
 ghost use Rattle.pack.specs.Image.{actionOf};
-ghost use Rattle.pack.specs.Shape.{isWrong};
+ghost use Rattle.pack.specs.Laid.{Laid};
+ghost use Rattle.pack.specs.Shape.{isWrong, parserRules, scannerRules, shape};
+use rules::Table;
 
 pub mod image; // image.rt: each number of the image by its name
 pub mod rules; // rules.rt: the rules of the shape
@@ -46,4 +48,63 @@ pub fn action_of(code: usize) -> Action
         return Action::Shift(rest / 2);
     }
     Action::Reduce(rest / 2)
+}
+
+// The tables of the parser: layout, dom, prod, act and goto.
+fn parser_rules(img: &[u16]) -> Verdict
+    requires { ⌜ Laid (now img) ⌝ }
+    ensures { λ r. ⌜ r ≡ parserRules (now (img .entry)) ⌝ }
+{
+    let layout = rules::layout_rule(img);
+    if is_wrong(layout) {
+        return layout;
+    }
+    let dom = rules::rows(img, Table::Dom, image::terminals(img));
+    if is_wrong(dom) {
+        return dom;
+    }
+    let prod = rules::rows(img, Table::Prod, image::productions(img));
+    if is_wrong(prod) {
+        return prod;
+    }
+    let act = rules::rows(img, Table::Act, image::states(img));
+    if is_wrong(act) {
+        return act;
+    }
+    rules::gotos(img)
+}
+
+// The tables of the scanner: class, move, scan and group.
+fn scanner_rules(img: &[u16]) -> Verdict
+    requires { ⌜ Laid (now img) ⌝ }
+    ensures { λ r. ⌜ r ≡ scannerRules (now (img .entry)) ⌝ }
+{
+    let class = rules::rows(img, Table::Class, image::ranges(img));
+    if is_wrong(class) {
+        return class;
+    }
+    let moves = rules::moves(img);
+    if is_wrong(moves) {
+        return moves;
+    }
+    let scan = rules::rows(img, Table::Scan, image::scan_states(img));
+    if is_wrong(scan) {
+        return scan;
+    }
+    rules::rows(img, Table::Group, image::groups(img))
+}
+
+// The shape of any words: good, or the place of the first wrong one.
+pub fn shape(img: &[u16]) -> Verdict
+    ensures { λ r. ⌜ r ≡ shape (now (img .entry)) ⌝ }
+{
+    let head = rules::head(img);
+    if is_wrong(head) {
+        return head;
+    }
+    let parser = parser_rules(img);
+    if is_wrong(parser) {
+        return parser;
+    }
+    scanner_rules(img)
 }

@@ -1,8 +1,8 @@
 // The rules of the shape, one function to a rule, row or table. Inner functions: they ask for an image that is laid out as its sizes
 // say, except the first three, which find that out.
+use super::Verdict;
 use super::image;
 use super::is_wrong;
-use super::Verdict;
 ghost use mathlib.Core.Path.{_≡_};
 ghost use mathlib.Core.Bool.{_&&_};
 ghost use Prim.Native.Nat.{ℕ, _+_, _*_, _<_, _≤_};
@@ -13,9 +13,10 @@ ghost use Rattle.pack.specs.declared.Verdict.the-variants.{Good};
 ghost use Rattle.pack.specs.Image.{word, terminals, nonterminals, productions, states, scanStates, classes, ranges, groups, prodAt, actAt, rangeAt, scanAt, groupAt, leastSize, greatestSize, actionOf};
 ghost use Rattle.pack.specs.Laid.{Laid};
 ghost use Rattle.pack.specs.Rows.{rowRule, rowsOf};
-ghost use Rattle.pack.specs.Shape.{each, sizeRule, lengthRule, headRules, fits, layoutRule, domRule, isSymbol, symbolRule, prodRule, actRight, actRule, cellRule, abovePrevious, rangeRule, emptyAtStart, scanRule, differs, groupRule};
+ghost use Rattle.pack.specs.Shape.{each, sizeRule, lengthRule, headRules, fits, layoutRule, domRule, isSymbol, symbolRule, prodRule, actRight, actRule, cellRule, abovePrevious, rangeRule, emptyAtStart, scanRule, differs, groupRule, gotoRules, moveRules};
 
 const LEAST: [usize; 9] = [0, 1, 1, 1, 1, 1, 1, 0, 0];
+
 const GREATEST: [usize; 9] = [0, 64, 32, 128, 128, 128, 32, 64, 32];
 
 // The size at word i is there and within its limits.
@@ -46,6 +47,30 @@ fn sizes(img: &[u16]) -> Verdict
             return v;
         }
         i += 1;
+    }
+    Verdict::Good
+}
+
+// Word 0, the sizes and the total length.
+pub fn head(img: &[u16]) -> Verdict
+    ensures { λ r. ⌜ r ≡ headRules (now (img .entry)) ⌝ }
+{
+    if img.len() < 1 {
+        return Verdict::Wrong(0);
+    }
+    if image::word_at(img, 0) != 1 {
+        return Verdict::Wrong(0);
+    }
+    let v = sizes(img);
+    if is_wrong(v) {
+        return v;
+    }
+    let needed = image::needed(img);
+    if img.len() < needed {
+        return Verdict::Wrong(img.len());
+    }
+    if needed < img.len() {
+        return Verdict::Wrong(needed);
     }
     Verdict::Good
 }
@@ -369,7 +394,7 @@ fn row_rule(img: &[u16], table: Table, i: usize) -> Verdict
 }
 
 // The first wrong word of a table, row by row.
-fn rows(img: &[u16], table: Table, n: usize) -> Verdict
+pub fn rows(img: &[u16], table: Table, n: usize) -> Verdict
     requires { ⌜ Laid (now img) ⌝ }
     requires { ⌜ n ≤ rowsOf (now img) table ⌝ }
     ensures { λ r. ⌜ r ≡ each (rowRule (now (img .entry)) table) n 0 ⌝ }
@@ -398,4 +423,21 @@ fn cells(img: &[u16], start: usize, n: usize, most: usize) -> Verdict
         i += 1;
     }
     Verdict::Good
+}
+
+// The goto table, and the move table.
+pub fn gotos(img: &[u16]) -> Verdict
+    requires { ⌜ Laid (now img) ⌝ }
+    ensures { λ r. ⌜ r ≡ gotoRules (now (img .entry)) ⌝ }
+{
+    let n = image::class_start(img) - image::goto_start(img);
+    cells(img, image::goto_start(img), n, image::states(img))
+}
+
+pub fn moves(img: &[u16]) -> Verdict
+    requires { ⌜ Laid (now img) ⌝ }
+    ensures { λ r. ⌜ r ≡ moveRules (now (img .entry)) ⌝ }
+{
+    let n = image::scan_start(img) - image::move_start(img);
+    cells(img, image::move_start(img), n, image::scan_states(img))
 }

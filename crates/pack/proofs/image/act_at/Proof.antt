@@ -1,9 +1,7 @@
 use borrow.Author.Needs.{needs}
 use native.Mathlib.Omega.{arith}
 use mathlib.Core.Path.{_≡_, refl}
-
 use lib.Arith.{digits-lt}
-
 use Rattle.pack.proofs.Laws.{times}
 use Rattle.pack.proofs.image.act_at.Statement.{statement}
 use Rattle.pack.proofs.image.act_at.Tie as tie

@@ -27,24 +27,52 @@ unfolding actRight actionOf
 returns-4 c =
     let m = c .before .before .before in
     let two = m .before .before in
-    simp (actionOf, ne-eqb _ _ (two .before .if1 .left), ne-eqb _ _ (two .if2 .left), eq-eqb _ _ (c .before .if4 .taken), actRight, _&&_, ← m .before .layout .ensures,
-    out-lacks _ _ (sym (m .member .ensures) ∙ c .before .before .if3 .left), lt-leb _ _ (c .if5 .taken))
+    simp (
+      actionOf,
+      ne-eqb _ _ (two .before .if1 .left),
+      ne-eqb _ _ (two .if2 .left),
+      eq-eqb _ _ (c .before .if4 .taken),
+      actRight,
+      _&&_,
+      ← m .before .layout .ensures,
+      out-lacks _ _ (sym (m .member .ensures) ∙ c .before .before .if3 .left),
+      lt-leb _ _ (c .if5 .taken),
+    )
 
 returns-5 : tie.Need-returns-5
 unfolding actRight actionOf
 returns-5 c =
     let m = c .before .before .before .before in
     let two = m .before .before in
-    simp (actionOf, ne-eqb _ _ (two .before .if1 .left), ne-eqb _ _ (two .if2 .left), eq-eqb _ _ (c .before .before .if4 .taken), actRight, _&&_, ← m .before .layout .ensures,
-    out-lacks _ _ (sym (m .member .ensures) ∙ c .before .before .before .if3 .left), le-leb _ _ (c .before .if5 .left), ← c .states .ensures)
+    simp (
+      actionOf,
+      ne-eqb _ _ (two .before .if1 .left),
+      ne-eqb _ _ (two .if2 .left),
+      eq-eqb _ _ (c .before .before .if4 .taken),
+      actRight,
+      _&&_,
+      ← m .before .layout .ensures,
+      out-lacks _ _ (sym (m .member .ensures) ∙ c .before .before .before .if3 .left),
+      le-leb _ _ (c .before .if5 .left),
+      ← c .states .ensures,
+    )
 
 returns-6 : tie.Need-returns-6
 unfolding actRight actionOf
 returns-6 c =
     let m = c .before .before .before in
     let two = m .before .before in
-    simp (actionOf, ne-eqb _ _ (two .before .if1 .left), ne-eqb _ _ (two .if2 .left), ne-eqb _ _ (c .before .if4 .left), actRight, _&&_, ← m .before .layout .ensures,
-    out-lacks _ _ (sym (m .member .ensures) ∙ c .before .before .if3 .left), ← c .productions .ensures)
+    simp (
+      actionOf,
+      ne-eqb _ _ (two .before .if1 .left),
+      ne-eqb _ _ (two .if2 .left),
+      ne-eqb _ _ (c .before .if4 .left),
+      actRight,
+      _&&_,
+      ← m .before .layout .ensures,
+      out-lacks _ _ (sym (m .member .ensures) ∙ c .before .before .if3 .left),
+      ← c .productions .ensures,
+    )
 
 pub act-right-spec : {M : Type 1} → statement M
 act-right-spec =

@@ -21,16 +21,32 @@ unfolding domRule domRight rule
 returns-3 c =
     let m = c .before in
     let f = m .before .before in
-    simp (domRule, domRight, rule, _&&_, ← f .before .before .dom .ensures, ne-eqb _ _ (f .before .if1 .left), sym (f .fits2 .ensures) ∙ m .before .if3 .taken,
-    in-lacks _ _ (sym (m .member .ensures) ∙ c .if4 .taken))
+    simp (
+      domRule,
+      domRight,
+      rule,
+      _&&_,
+      ← f .before .before .dom .ensures,
+      ne-eqb _ _ (f .before .if1 .left),
+      sym (f .fits2 .ensures) ∙ m .before .if3 .taken,
+      in-lacks _ _ (sym (m .member .ensures) ∙ c .if4 .taken),
+    )
 
 returns-4 : tie.Need-returns-4
 unfolding domRule domRight rule
 returns-4 c =
     let m = c .before in
     let f = m .before .before in
-    simp (domRule, domRight, rule, _&&_, ← f .before .before .dom .ensures, ne-eqb _ _ (f .before .if1 .left), sym (f .fits2 .ensures) ∙ m .before .if3 .taken,
-    out-lacks _ _ (sym (m .member .ensures) ∙ c .if4 .left))
+    simp (
+      domRule,
+      domRight,
+      rule,
+      _&&_,
+      ← f .before .before .dom .ensures,
+      ne-eqb _ _ (f .before .if1 .left),
+      sym (f .fits2 .ensures) ∙ m .before .if3 .taken,
+      out-lacks _ _ (sym (m .member .ensures) ∙ c .if4 .left),
+    )
 
 returns-5 : tie.Need-returns-5
 unfolding domRule domRight rule

@@ -26,8 +26,8 @@ returns-2 c =
     let t = c .before in
     let s = t .before .before in
     let below : s .args .set < 2 ^ t .terminals .result =
-        ⊎-elim (λ w. shifted-away _ _ (w .1 .left))
-        (λ w. omega (arith, s .fits .set .fits, pow-mono (w .left))) (c .if1 .came) in
+    ⊎-elim (λ w. shifted-away _ _ (w .1 .left))
+    (λ w. omega (arith, s .fits .set .fits, pow-mono (w .left))) (c .if1 .came) in
     simp (fits, lacks, _&&_, ← t .terminals .ensures, lt-ltb _ _ below, has-zero)
 
 pub fits-spec : {M : Type 1} → statement M

@@ -12,8 +12,18 @@ returns c =
     let u = m .before .before .before in
     let s = u .before .before in
     let f = s .before .before in
-    simp (groupRule, ← f .before .group-set .ensures, sym (f .fits2 .ensures) ∙ s .before .if1 .taken, _&&_, sym (s .several .ensures) ∙ u .before .if2 .taken,
-    sym (u .unlike .ensures) ∙ m .before .before .if3 .taken, rule, andThen, ← m .before .chosen .ensures, sym (m .member .ensures) ∙ c .if4 .taken)
+    simp (
+      groupRule,
+      ← f .before .group-set .ensures,
+      sym (f .fits2 .ensures) ∙ s .before .if1 .taken,
+      _&&_,
+      sym (s .several .ensures) ∙ u .before .if2 .taken,
+      sym (u .unlike .ensures) ∙ m .before .before .if3 .taken,
+      rule,
+      andThen,
+      ← m .before .chosen .ensures,
+      sym (m .member .ensures) ∙ c .if4 .taken,
+    )
 
 returns-2 : tie.Need-returns-2
 unfolding groupRule rule andThen
@@ -22,8 +32,19 @@ returns-2 c =
     let u = m .before .before .before in
     let s = u .before .before in
     let f = s .before .before in
-    simp (groupRule, ← f .before .group-set .ensures, sym (f .fits2 .ensures) ∙ s .before .if1 .taken, _&&_, sym (s .several .ensures) ∙ u .before .if2 .taken,
-    sym (u .unlike .ensures) ∙ m .before .before .if3 .taken, rule, andThen, ← m .before .chosen .ensures, sym (m .member .ensures) ∙ c .if4 .left, ← f .before .before .group-start .ensures)
+    simp (
+      groupRule,
+      ← f .before .group-set .ensures,
+      sym (f .fits2 .ensures) ∙ s .before .if1 .taken,
+      _&&_,
+      sym (s .several .ensures) ∙ u .before .if2 .taken,
+      sym (u .unlike .ensures) ∙ m .before .before .if3 .taken,
+      rule,
+      andThen,
+      ← m .before .chosen .ensures,
+      sym (m .member .ensures) ∙ c .if4 .left,
+      ← f .before .before .group-start .ensures,
+    )
 
 returns-3 : tie.Need-returns-3
 unfolding groupRule rule andThen
@@ -31,8 +52,17 @@ returns-3 c =
     let u = c .before in
     let s = u .before .before in
     let f = s .before .before in
-    simp (groupRule, ← f .before .group-set .ensures, sym (f .fits2 .ensures) ∙ s .before .if1 .taken, _&&_, sym (s .several .ensures) ∙ u .before .if2 .taken,
-    sym (u .unlike .ensures) ∙ c .if3 .left, rule, andThen, ← f .before .before .group-start .ensures)
+    simp (
+      groupRule,
+      ← f .before .group-set .ensures,
+      sym (f .fits2 .ensures) ∙ s .before .if1 .taken,
+      _&&_,
+      sym (s .several .ensures) ∙ u .before .if2 .taken,
+      sym (u .unlike .ensures) ∙ c .if3 .left,
+      rule,
+      andThen,
+      ← f .before .before .group-start .ensures,
+    )
 
 returns-4 : tie.Need-returns-4
 unfolding groupRule rule andThen

@@ -16,16 +16,30 @@ unfolding isSymbol
 returns-2 c =
     let l = c .before .before in
     let x = l .before .before in
-    simp (isSymbol, _&&_, ← x .before .terminals .ensures, lt-ltb _ _ (x .if1 .taken), le-leb _ _ (l .before .if2 .left), ← l .layout .ensures,
-    in-lacks _ _ (sym (c .before .member .ensures) ∙ c .if3 .taken))
+    simp (
+      isSymbol,
+      _&&_,
+      ← x .before .terminals .ensures,
+      lt-ltb _ _ (x .if1 .taken),
+      le-leb _ _ (l .before .if2 .left),
+      ← l .layout .ensures,
+      in-lacks _ _ (sym (c .before .member .ensures) ∙ c .if3 .taken),
+    )
 
 returns-3 : tie.Need-returns-3
 unfolding isSymbol
 returns-3 c =
     let l = c .before .before in
     let x = l .before .before in
-    simp (isSymbol, _&&_, ← x .before .terminals .ensures, lt-ltb _ _ (x .if1 .taken), le-leb _ _ (l .before .if2 .left), ← l .layout .ensures,
-    out-lacks _ _ (sym (c .before .member .ensures) ∙ c .if3 .left))
+    simp (
+      isSymbol,
+      _&&_,
+      ← x .before .terminals .ensures,
+      lt-ltb _ _ (x .if1 .taken),
+      le-leb _ _ (l .before .if2 .left),
+      ← l .layout .ensures,
+      out-lacks _ _ (sym (c .before .member .ensures) ∙ c .if3 .left),
+    )
 
 returns-4 : tie.Need-returns-4
 unfolding isSymbol

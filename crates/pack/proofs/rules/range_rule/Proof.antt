@@ -26,8 +26,21 @@ returns-3 c =
     let k = c .before .before in
     let l = k .before .before .before in
     let a = l .before .before .before in
-    simp (rangeRule, sym (a .above-previous .ensures) ∙ l .before .before .if1 .taken, rule, andThen, _&&_, ← l .lo .ensures, ← l .before .hi .ensures, le-leb _ _ (k .before .before .if2 .left), le-leb _ _ (k .before .if3 .left),
-    ← c .before .range-class .ensures, ← k .classes .ensures, le-ltb _ _ (c .if4 .taken), ← a .before .class-start .ensures)
+    simp (
+      rangeRule,
+      sym (a .above-previous .ensures) ∙ l .before .before .if1 .taken,
+      rule,
+      andThen,
+      _&&_,
+      ← l .lo .ensures,
+      ← l .before .hi .ensures,
+      le-leb _ _ (k .before .before .if2 .left),
+      le-leb _ _ (k .before .if3 .left),
+      ← c .before .range-class .ensures,
+      ← k .classes .ensures,
+      le-ltb _ _ (c .if4 .taken),
+      ← a .before .class-start .ensures,
+    )
 
 returns-4 : tie.Need-returns-4
 unfolding rangeRule rule andThen
@@ -35,8 +48,20 @@ returns-4 c =
     let k = c .before .before in
     let l = k .before .before .before in
     let a = l .before .before .before in
-    simp (rangeRule, sym (a .above-previous .ensures) ∙ l .before .before .if1 .taken, rule, andThen, _&&_, ← l .lo .ensures, ← l .before .hi .ensures, le-leb _ _ (k .before .before .if2 .left), le-leb _ _ (k .before .if3 .left),
-    ← c .before .range-class .ensures, ← k .classes .ensures, lt-ltb _ _ (c .if4 .left))
+    simp (
+      rangeRule,
+      sym (a .above-previous .ensures) ∙ l .before .before .if1 .taken,
+      rule,
+      andThen,
+      _&&_,
+      ← l .lo .ensures,
+      ← l .before .hi .ensures,
+      le-leb _ _ (k .before .before .if2 .left),
+      le-leb _ _ (k .before .if3 .left),
+      ← c .before .range-class .ensures,
+      ← k .classes .ensures,
+      lt-ltb _ _ (c .if4 .left),
+    )
 
 returns-5 : tie.Need-returns-5
 unfolding rangeRule rule andThen

@@ -11,8 +11,17 @@ returns c =
     let f = c .before in
     let r = f .before .before .before in
     let a = r .before .before .before in
-    simp (scanRule, ← a .before .acc .ensures, sym (a .acc-right .ensures) ∙ r .before .before .if1 .taken, rule, andThen, ← r .before .rej .ensures, sym (r .rej-right .ensures) ∙ f .before .before .if2 .taken,
-    ← f .before .poss .ensures, sym (f .fits2 .ensures) ∙ c .if3 .taken)
+    simp (
+      scanRule,
+      ← a .before .acc .ensures,
+      sym (a .acc-right .ensures) ∙ r .before .before .if1 .taken,
+      rule,
+      andThen,
+      ← r .before .rej .ensures,
+      sym (r .rej-right .ensures) ∙ f .before .before .if2 .taken,
+      ← f .before .poss .ensures,
+      sym (f .fits2 .ensures) ∙ c .if3 .taken,
+    )
 
 returns-2 : tie.Need-returns-2
 unfolding scanRule rule andThen
@@ -20,16 +29,34 @@ returns-2 c =
     let f = c .before in
     let r = f .before .before .before in
     let a = r .before .before .before in
-    simp (scanRule, ← a .before .acc .ensures, sym (a .acc-right .ensures) ∙ r .before .before .if1 .taken, rule, andThen, ← r .before .rej .ensures, sym (r .rej-right .ensures) ∙ f .before .before .if2 .taken,
-    ← f .before .poss .ensures, sym (f .fits2 .ensures) ∙ c .if3 .left, ← a .before .before .scan-start .ensures)
+    simp (
+      scanRule,
+      ← a .before .acc .ensures,
+      sym (a .acc-right .ensures) ∙ r .before .before .if1 .taken,
+      rule,
+      andThen,
+      ← r .before .rej .ensures,
+      sym (r .rej-right .ensures) ∙ f .before .before .if2 .taken,
+      ← f .before .poss .ensures,
+      sym (f .fits2 .ensures) ∙ c .if3 .left,
+      ← a .before .before .scan-start .ensures,
+    )
 
 returns-3 : tie.Need-returns-3
 unfolding scanRule rule andThen
 returns-3 c =
     let r = c .before in
     let a = r .before .before .before in
-    simp (scanRule, ← a .before .acc .ensures, sym (a .acc-right .ensures) ∙ r .before .before .if1 .taken, rule, andThen, ← r .before .rej .ensures, sym (r .rej-right .ensures) ∙ c .if2 .left,
-    ← a .before .before .scan-start .ensures)
+    simp (
+      scanRule,
+      ← a .before .acc .ensures,
+      sym (a .acc-right .ensures) ∙ r .before .before .if1 .taken,
+      rule,
+      andThen,
+      ← r .before .rej .ensures,
+      sym (r .rej-right .ensures) ∙ c .if2 .left,
+      ← a .before .before .scan-start .ensures,
+    )
 
 returns-4 : tie.Need-returns-4
 unfolding scanRule rule andThen

@@ -20,15 +20,27 @@ returns-3 : tie.Need-returns-3
 unfolding sizeRule rule leastSize greatestSize
 returns-3 c =
     let w = c .before .before in
-    simp (sizeRule, rule, _&&_, lt-ltb _ _ (w .before .if1 .left), le-leb _ _ (rw (w .word-at .ensures) at (c .before .if2 .left)),
-    lt-leb _ _ (rw (w .word-at .ensures) at (c .if3 .taken)))
+    simp (
+      sizeRule,
+      rule,
+      _&&_,
+      lt-ltb _ _ (w .before .if1 .left),
+      le-leb _ _ (rw (w .word-at .ensures) at (c .before .if2 .left)),
+      lt-leb _ _ (rw (w .word-at .ensures) at (c .if3 .taken)),
+    )
 
 returns-4 : tie.Need-returns-4
 unfolding sizeRule rule leastSize greatestSize
 returns-4 c =
     let w = c .before .before in
-    simp (sizeRule, rule, _&&_, lt-ltb _ _ (w .before .if1 .left), le-leb _ _ (rw (w .word-at .ensures) at (c .before .if2 .left)),
-    le-leb _ _ (rw (w .word-at .ensures) at (c .if3 .left)))
+    simp (
+      sizeRule,
+      rule,
+      _&&_,
+      lt-ltb _ _ (w .before .if1 .left),
+      le-leb _ _ (rw (w .word-at .ensures) at (c .before .if2 .left)),
+      le-leb _ _ (rw (w .word-at .ensures) at (c .if3 .left)),
+    )
 
 pub size-rule-spec : {M : Type 1} → statement M
 size-rule-spec =
