@@ -1,4 +1,17 @@
 // One scan, as document 01 has it, and the scan called by itself.
+ghost use mathlib.Core.Path.{_≡_};
+ghost use Prim.Native.Nat.{ℕ, _+_, _<_, _≤_};
+ghost use lib.ListN.{length};
+ghost use Rattle.pack.specs.declared.Verdict.the-variants.{Good};
+ghost use Rattle.pack.specs.Image.{scanStates, move, classOf};
+ghost use Rattle.pack.specs.Laid.{Laid};
+ghost use Rattle.pack.specs.Shape.{shape};
+ghost use Rattle.scan.specs.Classed.{Classed};
+ghost use Rattle.scan.specs.Scan.{remember, scan, scanAlone};
+
+use pack::image;
+
+pub mod classes; // classes.rt: the row of 256 classes
 
 // What a scan remembers: the terminals matched last and the length of that match; both 0 for none.
 pub struct Remembered {
@@ -22,4 +35,79 @@ pub struct Scanned {
     pub set: u64,
     pub length: usize,
     pub moves: usize,
+}
+
+// What is remembered after move n, into a state that accepts and rejects these of the valid set.
+fn keep(accepted: u64, rejected: u64, n: usize, before: Remembered) -> Remembered
+    ensures { λ r. ⌜ r ≡ remember accepted rejected n before ⌝ }
+{
+    if accepted != 0 {
+        return Remembered {
+            set: accepted,
+            length: n,
+        };
+    }
+    if rejected != 0 {
+        return Remembered { set: 0, length: 0 };
+    }
+    before
+}
+
+// Where scan state q moves on a byte: 0 for nowhere, or 1 more than the state.
+fn next(img: &[u16], row: &[u8; 256], q: usize, b: u8) -> usize
+    requires { ⌜ Laid (now img) ⌝ }
+    requires { ⌜ shape (now img) ≡ Good ⌝ }
+    requires { ⌜ Classed (now img) (now row) ⌝ }
+    requires { ⌜ q < scanStates (now img) ⌝ }
+    ensures { λ r. ⌜ (r ≡ move (now (img .entry)) q (classOf (now (img .entry)) b)) × (r ≤ scanStates (now (img .entry))) ⌝ }
+{
+    image::move_of(img, q, classes::class_of(row, b))
+}
+
+// One scan over the rest of the text. Inner: its callers have tested the shape and filled the row of classes.
+pub fn one_scan(img: &[u16], row: &[u8; 256], v: u64, allowance: usize, bytes: &[u8]) -> Stop
+    requires { ⌜ Laid (now img) ⌝ }
+    requires { ⌜ shape (now img) ≡ Good ⌝ }
+    requires { ⌜ Classed (now img) (now row) ⌝ }
+    ensures { λ r. ⌜ r ≡ scan (now (img .entry)) v allowance (now (bytes .entry)) ⌝ }
+{
+    let mut q: usize = 0;
+    let mut n: usize = 0;
+    let mut kept = Remembered { set: 0, length: 0 };
+    while n < bytes.len() {
+        if image::poss(img, q) & v == 0 {
+            return Stop {
+                spent: false,
+                set: kept.set,
+                length: kept.length,
+                moves: n,
+            };
+        }
+        let to = next(img, row, q, bytes[n]);
+        if to == 0 {
+            return Stop {
+                spent: false,
+                set: kept.set,
+                length: kept.length,
+                moves: n,
+            };
+        }
+        if allowance <= n {
+            return Stop {
+                spent: true,
+                set: 0,
+                length: 0,
+                moves: n,
+            };
+        }
+        q = to - 1;
+        n += 1;
+        kept = keep(image::acc(img, q) & v, image::rej(img, q) & v, n, kept);
+    }
+    Stop {
+        spent: false,
+        set: kept.set,
+        length: kept.length,
+        moves: n,
+    }
 }

@@ -1,0 +1,45 @@
+-- One law for each way out of the loop of a scan, and one for its end, over what the callees ensure and the tests say, in the order
+-- of the code. Assumes nothing.
+use mathlib.Core.Path.{_≡_, refl, sym, ap, _∙_}
+use mathlib.Core.List.{List, [], _∷_}
+use Prim.Native.Nat.{ℕ, zero, suc, _+_, _-_, _<_, _≤_}
+use native.Mathlib.Omega.{arith}
+use native.Mathlib.Numerals.{add-one}
+use lib.ListN.{length, getD, drop, drop-of-length-le}
+use lib.Seq.{drop-cons}
+use lib.Bits.{bitAnd}
+use borrow.Author.Tests.{eq-eqb, ne-eqb, le-leb, lt-leb}
+use Rattle.sets.specs.Sets.{isEmpty}
+use Rattle.pack.specs.Image.{classOf, move, acc, rej, poss}
+use Rattle.scan.specs.declared.Remembered.{Remembered}
+use Rattle.scan.specs.Scan.{remember, stopped, usedUp, scanFrom}
+
+module _ (img : List ℕ) (v allowance : ℕ) (bytes : List ℕ) (q n : ℕ) (kept : Remembered) where
+  pub ends : length bytes ≤ n → scanFrom img v allowance (drop n bytes) q n kept ≡ stopped kept n
+  unfolding scanFrom
+  ends h = rw (drop-of-length-le bytes h)
+
+  module _ (h : n < length bytes) {p : ℕ} (e : p ≡ poss img q) where
+    pub nothing-possible : bitAnd p v ≡ 0 → scanFrom img v allowance (drop n bytes) q n kept ≡ stopped kept n
+    unfolding scanFrom isEmpty
+    nothing-possible t = rw (drop-cons bytes n 0 h) (simp (scanFrom, isEmpty, ← e, eq-eqb _ _ t))
+
+    module _ (s : bitAnd p v ≡ 0 → ⊥) {to : ℕ} (g : to ≡ move img q (classOf img (getD bytes n 0))) where
+      pub no-move : to ≡ 0 → scanFrom img v allowance (drop n bytes) q n kept ≡ stopped kept n
+      unfolding scanFrom isEmpty
+      no-move t = rw (drop-cons bytes n 0 h) (simp (scanFrom, isEmpty, ← e, ne-eqb _ _ s, ← g, t))
+
+      module _ (t : to ≡ 0 → ⊥) where
+        pub used-up : allowance ≤ n → scanFrom img v allowance (drop n bytes) q n kept ≡ usedUp n
+        unfolding scanFrom isEmpty
+        used-up k =
+            let z : to ≡ suc (to - 1) = omega arith in
+            rw (drop-cons bytes n 0 h) (simp (scanFrom, isEmpty, ← e, ne-eqb _ _ s, sym g ∙ z, le-leb _ _ k))
+
+        pub moves-on : {a r : ℕ} {now : Remembered} → n < allowance → a ≡ acc img (to - 1) → r ≡ rej img (to - 1)
+            → now ≡ remember (bitAnd a v) (bitAnd r v) (n + 1) kept
+            → scanFrom img v allowance (drop n bytes) q n kept ≡ scanFrom img v allowance (drop (n + 1) bytes) (to - 1) (n + 1) now
+        unfolding scanFrom isEmpty
+        moves-on k ea er em =
+            let z : to ≡ suc (to - 1) = omega arith in
+            rw (drop-cons bytes n 0 h, ← add-one n) (simp (scanFrom, isEmpty, ← e, ne-eqb _ _ s, sym g ∙ z, lt-leb _ _ k, ← ea, ← er, ← em))
