@@ -3,7 +3,7 @@
 ghost use mathlib.Core.Path.{_≡_};
 ghost use Rattle.pack.specs.Image.{actionOf};
 ghost use Rattle.pack.specs.Laid.{Laid};
-ghost use Rattle.pack.specs.Shape.{isWrong, parserRules, scannerRules, shape};
+ghost use Rattle.pack.specs.Shape.{isWrong, placeOf, parserRules, scannerRules, shape};
 use rules::Table;
 
 pub mod image; // image.rt: each number of the image by its name
@@ -22,6 +22,16 @@ pub fn is_wrong(v: Verdict) -> bool
     match v {
         Verdict::Good => false,
         Verdict::Wrong(_) => true,
+    }
+}
+
+// The place of the first wrong word, and 0 where there is none.
+pub fn place_of(v: Verdict) -> usize
+    ensures { λ r. ⌜ r ≡ placeOf v ⌝ }
+{
+    match v {
+        Verdict::Good => 0,
+        Verdict::Wrong(place) => place,
     }
 }
 

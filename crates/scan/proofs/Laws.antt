@@ -2,17 +2,23 @@
 -- of the code. Assumes nothing.
 use mathlib.Core.Path.{_≡_, refl, sym, ap, _∙_}
 use mathlib.Core.List.{List, [], _∷_}
-use Prim.Native.Nat.{ℕ, zero, suc, _+_, _-_, _<_, _≤_}
+use mathlib.Core.Bool.{true, false}
+use Prim.Native.Nat.{ℕ, zero, suc, _+_, _-_, _<_, _≤_, min}
 use native.Mathlib.Omega.{arith}
 use native.Mathlib.Numerals.{add-one}
-use lib.ListN.{length, getD, drop, drop-of-length-le}
-use lib.Seq.{drop-cons}
+use lib.ListN.{length, getD, take, drop, length-drop, drop-of-length-le}
+use lib.Seq.{drop-cons, take-all}
 use lib.Bits.{bitAnd}
-use borrow.Author.Tests.{eq-eqb, ne-eqb, le-leb, lt-leb}
+use borrow.Author.Tests.{eq-eqb, ne-eqb, le-leb, lt-leb, lt-ltb, le-ltb}
 use Rattle.sets.specs.Sets.{isEmpty}
-use Rattle.pack.specs.Image.{classOf, move, acc, rej, poss}
+use Rattle.pack.specs.declared.Verdict.{Verdict}
+use Rattle.pack.specs.Numbers.{queryTooLong, wrongShape}
+use Rattle.pack.specs.Image.{classOf, move, acc, rej, poss, tokens}
+use Rattle.pack.specs.Shape.{isWrong, placeOf, shape}
+use Rattle.pack.proofs.Laws.{is-good, is-wrong}
 use Rattle.scan.specs.declared.Remembered.{Remembered}
-use Rattle.scan.specs.Scan.{remember, stopped, usedUp, scanFrom}
+use Rattle.scan.specs.declared.Stop.{Stop}
+use Rattle.scan.specs.Scan.{remember, stopped, usedUp, scanFrom, scan, codeOf, refused, scanAlone}
 
 module _ (img : List ℕ) (v allowance : ℕ) (bytes : List ℕ) (q n : ℕ) (kept : Remembered) where
   pub ends : length bytes ≤ n → scanFrom img v allowance (drop n bytes) q n kept ≡ stopped kept n
@@ -43,3 +49,26 @@ module _ (img : List ℕ) (v allowance : ℕ) (bytes : List ℕ) (q n : ℕ) (ke
         moves-on k ea er em =
             let z : to ≡ suc (to - 1) = omega arith in
             rw (drop-cons bytes n 0 h, ← add-one n) (simp (scanFrom, isEmpty, ← e, ne-eqb _ _ s, sym g ∙ z, lt-leb _ _ k, ← ea, ← er, ← em))
+
+-- "the rest of the text from the place on", as the code takes it.
+pub rest-of : (text : List ℕ) (place : ℕ) → take (length text - place) (drop place text) ≡ drop place text
+rest-of text place = take-all (length text - place) (drop place text) (omega (arith, length-drop place text))
+
+-- The ways out of the scan called by itself.
+module _ (img text : List ℕ) (start set allowance : ℕ) where
+  pub alone-long : 65535 < length text → refused queryTooLong 0 ≡ scanAlone img text start set allowance
+  unfolding scanAlone
+  alone-long h = simp (scanAlone, lt-ltb _ _ h)
+
+  module _ (h : length text ≤ 65535) {v : Verdict} (e : v ≡ shape img) where
+    pub alone-wrong : {p : ℕ} → isWrong v ≡ true → p ≡ placeOf v → refused wrongShape p ≡ scanAlone img text start set allowance
+    unfolding scanAlone placeOf
+    alone-wrong w ep =
+        let q = is-wrong v w in
+        simp (scanAlone, le-ltb _ _ h, sym e ∙ q .1) (ap (refused wrongShape) (ep ∙ ap placeOf (q .1)))
+
+    pub alone-scan : {p t k : ℕ} {rest : List ℕ} {stop : Stop} → isWrong v ≡ false → p ≡ min start (length text) → t ≡ tokens img → rest ≡ drop p text
+        → stop ≡ scan img (bitAnd set t) allowance rest → k ≡ codeOf (stop .spent)
+        → record { code = k; place = p; set = stop .set; length = stop .length; moves = stop .moves } ≡ scanAlone img text start set allowance
+    unfolding scanAlone
+    alone-scan g ep et er es ek = simp (scanAlone, le-ltb _ _ h, sym e ∙ is-good v g, ← ep, ← et, ← er, ← es, ← ek)

@@ -58,12 +58,17 @@ scan img v allowance bytes = scanFrom img v allowance bytes 0 0 nothing
 abbrev pub refused : ℕ → ℕ → Scanned
 refused code place = record { code = code; place = place; set = 0; length = 0; moves = 0 }
 
+-- 13 where the allowance was used up, else 0.
+unfoldable pub codeOf : Bool → ℕ
+codeOf true = spent
+codeOf false = done
+
 -- Its answer for what a scan from the place gives: 13 or 0. "With 0 the place is the start, and set and length are 0
 -- for no match."
-unfoldable pub answer : ℕ → Stop → Scanned
+abbrev pub answer : ℕ → Stop → Scanned
 answer place stop =
     record {
-      code = elim (stop .spent) [ true ↦ spent | false ↦ done ];
+      code = codeOf (stop .spent);
       place = place;
       set = stop .set;
       length = stop .length;

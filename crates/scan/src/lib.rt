@@ -1,13 +1,13 @@
 // One scan, as document 01 has it, and the scan called by itself.
 ghost use mathlib.Core.Path.{_≡_};
-ghost use Prim.Native.Nat.{ℕ, _+_, _<_, _≤_};
+ghost use Prim.Native.Nat.{ℕ, _+_, _<_, _≤_, min};
 ghost use lib.ListN.{length};
 ghost use Rattle.pack.specs.declared.Verdict.the-variants.{Good};
-ghost use Rattle.pack.specs.Image.{scanStates, move, classOf};
+ghost use Rattle.pack.specs.Image.{scanStates, move, classOf, tokens};
 ghost use Rattle.pack.specs.Laid.{Laid};
 ghost use Rattle.pack.specs.Shape.{shape};
 ghost use Rattle.scan.specs.Classed.{Classed};
-ghost use Rattle.scan.specs.Scan.{remember, scan, scanAlone};
+ghost use Rattle.scan.specs.Scan.{remember, scan, codeOf, refused, scanAlone};
 
 use pack::image;
 
@@ -110,4 +110,72 @@ pub fn one_scan(img: &[u16], row: &[u8; 256], v: u64, allowance: usize, bytes: &
         length: kept.length,
         moves: n,
     }
+}
+
+// All terminals but 0.
+pub fn tokens(img: &[u16]) -> u64
+    requires { ⌜ Laid (now img) ⌝ }
+    ensures { λ r. ⌜ r ≡ tokens (now (img .entry)) ⌝ }
+{
+    let t = image::terminals(img);
+    if t < 64 {
+        return (1u64 << t) - 2;
+    }
+    18446744073709551614
+}
+
+// The code of a scan that stopped.
+fn code_of(spent: bool) -> u8
+    ensures { λ r. ⌜ r ≡ codeOf spent ⌝ }
+{
+    if spent {
+        return 13;
+    }
+    0
+}
+
+// The scan called by itself. It asks nothing: a start past the text counts as its end, and what is no token is dropped from the set.
+pub fn scan(img: &[u16], text: &[u8], start: usize, set: u64, allowance: u32) -> Scanned
+    ensures { λ r. ⌜ r ≡ scanAlone (now (img .entry)) (now (text .entry)) start set allowance ⌝ }
+{
+    if 65535 < text.len() {
+        return refusal(6, 0);
+    }
+    let v = pack::shape(img);
+    if pack::is_wrong(v) {
+        return refusal(4, pack::place_of(v));
+    }
+    let place = within(start, text.len());
+    let row = classes::class_row(img);
+    let stop = one_scan(img, &row, set & tokens(img), allowance as usize, &text[place..]);
+    Scanned {
+        code: code_of(stop.spent),
+        place,
+        set: stop.set,
+        length: stop.length,
+        moves: stop.moves,
+    }
+}
+
+// A refusal: all but the code and the place is 0.
+fn refusal(code: u8, place: usize) -> Scanned
+    ensures { λ r. ⌜ r ≡ refused code place ⌝ }
+{
+    Scanned {
+        code,
+        place,
+        set: 0,
+        length: 0,
+        moves: 0,
+    }
+}
+
+// The smaller of the two.
+fn within(start: usize, end: usize) -> usize
+    ensures { λ r. ⌜ r ≡ min start end ⌝ }
+{
+    if start < end {
+        return start;
+    }
+    end
 }

@@ -3,10 +3,10 @@
 use mathlib.Core.Path.{_≡_, refl, sym, ap, ap₂, _∙_}
 use mathlib.Core.Bool.{Bool, true, false}
 use Prim.Native.Nat.{ℕ, zero, suc, _+_, _-_, _*_, _/_, _%_, _^_, _≤_, _<_, suc-le-suc, min, max}
-use native.Mathlib.Nat.{le-of-suc-le-suc, not-suc-le-zero, mod-lt, pow-suc, zero-div, zero-lt-suc, div-eq-of-lt, div-add-mod', zero-mul}
+use native.Mathlib.Nat.{le-of-suc-le-suc, not-suc-le-zero, mod-lt, pow-suc, zero-div, zero-lt-suc, div-eq-of-lt, div-add-mod', zero-mul, one-mul, mod-eq-of-lt}
 use native.Mathlib.Numerals.{add-one, one-add}
 use native.Mathlib.Omega.{arith}
-use lib.Pow.{shr-shr, shr-lt, pow-pos, pow-mono}
+use lib.Pow.{shr-shr, shr-lt, pow-pos, pow-lt, pow-mono}
 use lib.Bits.{bitAnd, bitOr, and-step, or-step, and-le-l}
 use lib.Count.{ones, onesIn, ones-step, trailingZeros, under}
 use lib.Arith.{lt-of-le-ne}
@@ -143,3 +143,9 @@ not-shifted-away x k n = go (ltb x (2 ^ k)) refl
     go : (b : Bool) → ltb x (2 ^ k) ≡ b → 2 ^ k ≤ x
     go true e = absurd (n (div-eq-of-lt (ltb-true _ _ e)))
     go false e = ltb-false _ _ e
+
+-- The set of one terminal, as the code shifts it.
+pub one-shifted : (t : ℕ) → t < 64 → 1 * 2 ^ t % 18446744073709551616 ≡ 2 ^ t
+one-shifted t h =
+    let b : 2 ^ t < 18446744073709551616 = pow-lt h in
+    rw (one-mul (2 ^ t)) (mod-eq-of-lt b)
