@@ -45,16 +45,16 @@ find6 img = least (λ s. finding (k6 img s) s 0) (states img) 0
 -- The answer of a condition that fails, or what comes after it.
 unfoldable pub report : ℕ → Finding → Checked → Checked
 report condition holds after = after
-report condition (fails first second) after = record { code = checkFails; first = condition; second = first; third = second }
+report condition (fails first second) after = record { code = checkFails; number = condition; first = first; second = second }
 
 abbrev pub passed : Checked
-passed = record { code = done; first = 0; second = 0; third = 0 }
+passed = record { code = done; number = 0; first = 0; second = 0 }
 
 -- "Check: 4, 5."
 unfoldable pub check : List ℕ → Checked
 check img =
     elim (shape img) [
-      | Wrong place ↦ record { code = wrongShape; first = place; second = 0; third = 0 }
+      | Wrong place ↦ record { code = wrongShape; number = place; first = 0; second = 0 }
       | Good ↦
           report 1 (find1 img)
           (report 2 (find2 img)

@@ -1,11 +1,11 @@
--- Document 01, "The check": the conditions K1 to K6, as what is meant. Tests.antt has the test of each.
+-- Document 01, "The check": what each of the conditions K1 to K6 means. Tests.antt has the test of each.
 use mathlib.Core.Path.{_≡_}
 use mathlib.Core.Bool.{true}
 use mathlib.Core.List.{List}
 use Prim.Native.Nat.{ℕ, suc, _+_, _*_, _-_, _<_}
 use Rattle.sets.specs.Sets.{has, meet, union, several}
 use Rattle.pack.specs.declared.Verdict.the-variants.{Good}
-use Rattle.pack.specs.Image.{terminals, productions, states, scanStates, classes, groups, dom, lhs, len, symbol, act, goto, move, acc, rej, poss, groupSet, validSet}
+use Rattle.pack.specs.Image.{terminals, productions, states, scanStates, classes, groups, dom, lhs, len, symbol, act, goto, move, acc, rej, poss, groupSet, validSet, startSymbol}
 use Rattle.pack.specs.Shape.{shape}
 use Rattle.checker.specs.Edges.{Edge, Back}
 
@@ -62,9 +62,9 @@ pub record K5 (img : List ℕ) (s p : ℕ) : Type 0 where
 pub record K6 (img : List ℕ) (s : ℕ) : Type 0 where
   pub not-start : s ≡ 0 → ⊥
   pub from-start : (r x : ℕ) → Edge img r x s → r ≡ 0
-  pub on-start-symbol : (r x : ℕ) → Edge img r x s → x ≡ 64
+  pub on-start-symbol : (r x : ℕ) → Edge img r x s → x ≡ startSymbol
 
--- "A pack passes exactly when shape and the six listed conditions hold."
+-- Demand 2 of the letter: "A pack passes exactly when shape and the six listed conditions hold."
 pub record Passes (img : List ℕ) : Type 0 where
   pub good : shape img ≡ Good
   pub k1 : (q : ℕ) → q < scanStates img → K1 img q

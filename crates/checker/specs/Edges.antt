@@ -39,7 +39,7 @@ implies given wanted = elim given [ true ↦ wanted | false ↦ true ]
 abbrev pub symbols : List ℕ → ℕ
 symbols img = 64 + nonterminals img
 
--- There is an edge from s to v on symbol x.
+-- There is an edge from s to v on symbol x, of a state s below S and a symbol below 64 + N.
 unfoldable pub isEdge : List ℕ → ℕ → ℕ → ℕ → Bool
 isEdge img s x v =
     elim (ltb x 64) [

@@ -1,5 +1,5 @@
 -- Document 01, "The pack": the image, where each table stands in it, and each number in it by name.
--- An image is the list of its 16-bit words. This is the one file that knows an offset.
+-- An image is the list of its 16-bit words. Where a table, a row or an entry begins is known in this file alone.
 use mathlib.Core.Bool.{Bool, true, false}
 use mathlib.Core.List.{List, [], _∷_}
 use Prim.Native.Nat.{ℕ, zero, suc, _+_, _*_, _-_, _/_, _%_, _^_}
@@ -17,32 +17,40 @@ word img i = getD img i 0
 unfoldable pub setAt : List ℕ → ℕ → ℕ
 setAt img i = word img i + word img (i + 1) * 65536 + word img (i + 2) * 4294967296 + word img (i + 3) * 281474976710656
 
--- Sizes: T, N, P, S, Q, C, R and G, in the words 1 to 8.
+-- Sizes, in the words 1 to 8. T:
 abbrev pub terminals : List ℕ → ℕ
 terminals img = word img 1
 
+-- N:
 abbrev pub nonterminals : List ℕ → ℕ
 nonterminals img = word img 2
 
+-- P:
 abbrev pub productions : List ℕ → ℕ
 productions img = word img 3
 
+-- S:
 abbrev pub states : List ℕ → ℕ
 states img = word img 4
 
+-- Q:
 abbrev pub scanStates : List ℕ → ℕ
 scanStates img = word img 5
 
+-- C:
 abbrev pub classes : List ℕ → ℕ
 classes img = word img 6
 
+-- R:
 abbrev pub ranges : List ℕ → ℕ
 ranges img = word img 7
 
+-- G:
 abbrev pub groups : List ℕ → ℕ
 groups img = word img 8
 
--- "T 1..64, N 1..32, P 1..128, S 1..128, Q 1..128, C 1..32, R 0..64, G 0..32": the limits of the size at word i.
+-- "terminals T 1..64, nonterminals N 1..32, productions P 1..128, parse states S 1..128, scan states Q 1..128, byte classes C 1..32,
+-- class ranges R 0..64, groups G 0..32": the limits of the size at word i.
 unfoldable pub leastSize : ℕ → ℕ
 leastSize i = getD (0 ∷ 1 ∷ 1 ∷ 1 ∷ 1 ∷ 1 ∷ 1 ∷ 0 ∷ 0 ∷ []) i 0
 
@@ -122,9 +130,15 @@ len img p = word img (prodAt img p + 1)
 unfoldable pub symbol : List ℕ → ℕ → ℕ → ℕ
 symbol img p i = word img (prodAt img p + 2 + i)
 
--- "Symbol numbers: terminal t is t, nonterminal n is 64+n."
+-- "Symbol numbers: terminal t is t, nonterminal n is 64+n." "Terminal 0 is the end of the text. Nonterminal 0 is the start symbol."
 abbrev pub ofNonterminal : ℕ → ℕ
 ofNonterminal n = 64 + n
+
+abbrev pub endOfText : ℕ
+endOfText = 0
+
+abbrev pub startSymbol : ℕ
+startSymbol = ofNonterminal 0
 
 -- The cells of the tables.
 unfoldable pub act : List ℕ → ℕ → ℕ → ℕ
@@ -136,7 +150,8 @@ goto img s n = word img (gotoAt img s n)
 unfoldable pub move : List ℕ → ℕ → ℕ → ℕ
 move img q c = word img (moveAt img q c)
 
--- "act: 0 error, 1 accept, 2+2s shift to state s, 3+2p reduce by p"; "goto: 0 none, 1+s"; "move: 0 none, 1+q".
+-- "act: 0 error, 1 accept, 2+2s shift to state s, 3+2p reduce by p". ("goto: 0 none, 1+s. move: 0 none, 1+q" are read where
+-- they are used, as zero or the successor of a state.)
 unfoldable pub actionOf : ℕ → Action
 actionOf code =
     elim (eqb code 0) [
@@ -186,7 +201,8 @@ classIn img b (suc n) r =
 abbrev pub classOf : List ℕ → ℕ → ℕ
 classOf img b = classIn img b (ranges img) 0
 
--- "A parse first fills a row of 256 classes": those of n bytes from b on, and of all bytes.
+-- "A parse first fills a row of 256 classes": those of n bytes from b on, and of all bytes. The row is for the code's sake: the
+-- definitions below take the class of a byte from `classOf`.
 unfoldable pub classRowFrom : List ℕ → ℕ → ℕ → List ℕ
 classRowFrom img zero b = []
 classRowFrom img (suc n) b = classOf img b ∷ classRowFrom img n (b + 1)
@@ -206,9 +222,9 @@ validFrom img s (suc n) t =
 abbrev pub validSet : List ℕ → ℕ → ℕ
 validSet img s = validFrom img s (terminals img) 0
 
--- All terminals but 0, the end of the text; and all but 0 and layout.
-abbrev pub tokens : List ℕ → ℕ
-tokens img = 2 ^ terminals img - 2
+-- All terminals but the end of the text; and all but that and layout.
+abbrev pub allButEnd : List ℕ → ℕ
+allButEnd img = 2 ^ terminals img - 2
 
-abbrev pub tokensLessLayout : List ℕ → ℕ
-tokensLessLayout img = less (tokens img) (layout img)
+abbrev pub allButEndAndLayout : List ℕ → ℕ
+allButEndAndLayout img = less (allButEnd img) (layout img)

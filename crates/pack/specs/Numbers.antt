@@ -54,8 +54,12 @@ abbrev pub stackFull : ℕ
 stackFull = 12
 
 -- 13: the allowance is used up.
-abbrev pub spent : ℕ
-spent = 13
+abbrev pub allowanceUsedUp : ℕ
+allowanceUsedUp = 13
+
+-- "the allowance is 0..4,294,967,295 moves"
+abbrev pub greatestAllowance : ℕ
+greatestAllowance = 4294967295
 
 -- "A text is at most 65,535 bytes": a pack text as well as a query.
 abbrev pub longestText : ℕ

@@ -49,7 +49,7 @@ sizeRule img i = rule (ltb i (length img) && (leb (leastSize i) (word img i) && 
 unfoldable pub lengthRule : List ℕ → Verdict
 lengthRule img = rule (eqb (length img) (needed img)) (min (length img) (needed img))
 
--- "Sets have no bit T or above", and by its own rule each of them lacks bit 0, the end of the text.
+-- "Sets have no bit T or above", and each of them, but dom(0), which is empty, lacks bit 0 by its own rule.
 unfoldable pub fits : List ℕ → ℕ → Bool
 fits img set = ltb set (2 ^ terminals img) && lacks set 0
 
@@ -86,6 +86,7 @@ prodRule img p =
     (each (symbolRule img p) 14 0))
 
 -- "Action codes name existing states and productions; accept only in column 0; no shift in column 0; layout columns all 0."
+-- (Column 0 is no layout column: layout lacks bit 0.)
 unfoldable pub actRight : List ℕ → ℕ → Action → Bool
 actRight img t Error = true
 actRight img t Accept = eqb t 0
@@ -152,13 +153,13 @@ scannerRules img =
     (andThen (each (scanRule img) (scanStates img) 0)
     (each (groupRule img) (groups img) 0)))
 
--- "word 0 is 1; sizes in range; total length": what the rest of the test leans on.
+-- "word 0 is 1; sizes in range ..; total length ..": what the rest of the test leans on.
 unfoldable pub headRules : List ℕ → Verdict
 headRules img =
     andThen (rule (eqb (word img 0) 1) 0)
     (andThen (each (sizeRule img) 8 1)
     (lengthRule img))
 
--- "tested in this order": .. "then word by word".
+-- "tested in this order": the three above, "then word by word".
 unfoldable pub shape : List ℕ → Verdict
 shape img = andThen (headRules img) (andThen (parserRules img) (scannerRules img))

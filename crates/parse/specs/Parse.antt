@@ -9,8 +9,8 @@ use Rattle.pack.specs.declared.Verdict.{Verdict}
 use Rattle.pack.specs.declared.Verdict.the-variants.{Good, Wrong}
 use Rattle.pack.specs.declared.Action.{Action}
 use Rattle.pack.specs.declared.Action.the-variants.{Error, Accept, Shift, Reduce}
-use Rattle.pack.specs.Numbers.{done, wrongShape, queryTooLong, noTerminal, unexpected, noGroup, stuck, treeFull, stackFull, spent, longestText, mostRecords, mostStates}
-use Rattle.pack.specs.Image.{layout, validSet, tokensLessLayout, act, actionOf, goto, lhs, len, ofNonterminal}
+use Rattle.pack.specs.Numbers.{done, wrongShape, queryTooLong, noTerminal, unexpected, noGroup, stuck, treeFull, stackFull, allowanceUsedUp, longestText, mostRecords, mostStates}
+use Rattle.pack.specs.Image.{layout, validSet, allButEndAndLayout, act, actionOf, goto, lhs, len, ofNonterminal, endOfText}
 use Rattle.pack.specs.Shape.{shape}
 use Rattle.scan.specs.declared.Stop.{Stop}
 use Rattle.scan.specs.Scan.{scan}
@@ -41,7 +41,7 @@ ending code place size terminal words moves =
       words = words;
     }
 
--- Layout. "Before the first token and after each shift, layout is skipped: scan with V = layout; take the length of a match;
+-- Layout. Code 13's place is that of the very scan that asked for one move more. "Before the first token and after each shift, layout is skipped: scan with V = layout; take the length of a match;
 -- repeat until no match." The count is one of bytes left: a match takes at least one (proofs/Counts.antt).
 pub record Skipped : Type 0 where
   pub spent : Bool
@@ -63,17 +63,18 @@ skipFrom img text allowance (suc left) place moves =
 abbrev pub skip : List ℕ → List ℕ → ℕ → ℕ → ℕ → Skipped
 skip img text allowance place moves = skipFrom img text allowance (length text - place) place moves
 
--- What stands at the place: a terminal and its length, or one of the codes 7, 8, 9 and 13 with length and terminal.
+-- What stands at the place: the length and the terminal of a token, or one of the codes 7, 8, 9 and 13 with length and terminal.
+-- Their place is where the parse stands, past skipped layout, which is where the scan began.
 pub data Token : Type 0 where
-  token : (terminal size moves : ℕ) → Token
+  token : (size terminal moves : ℕ) → Token
   refusal : (code size terminal moves : ℕ) → Token
 
 -- "No match: scan again with all terminals but 0 and layout; a match is code 8 with its lowest terminal, otherwise code 7."
 unfoldable pub rescan : List ℕ → List ℕ → ℕ → ℕ → ℕ → Token
 rescan img text allowance place moves =
-    let stop = scan img (tokensLessLayout img) (allowance - moves) (drop place text) in
+    let stop = scan img (allButEndAndLayout img) (allowance - moves) (drop place text) in
     elim (stop .spent) [
-      | true ↦ refusal spent 0 0 (moves + stop .moves)
+      | true ↦ refusal allowanceUsedUp 0 0 (moves + stop .moves)
       | false ↦ elim (isEmpty (stop .set)) [
         | true ↦ refusal noTerminal 0 0 (moves + stop .moves)
         | false ↦ refusal unexpected (stop .length) (lowest (stop .set)) (moves + stop .moves)
@@ -82,17 +83,17 @@ rescan img text allowance place moves =
 
 -- The terminal of a match, or code 9.
 unfoldable pub choose : List ℕ → ℕ → ℕ → ℕ → Token
-choose img set size moves = elim (terminalOf img set) [ zero ↦ refusal noGroup size 0 moves | suc t ↦ token t size moves ]
+choose img set size moves = elim (terminalOf img set) [ zero ↦ refusal noGroup size 0 moves | suc t ↦ token size t moves ]
 
 -- "At the end of the text the terminal is 0. Before the end, scan with V(s) less bit 0, afresh at every step."
-unfoldable pub look : List ℕ → List ℕ → ℕ → ℕ → ℕ → ℕ → Token
-look img text allowance s place moves =
+unfoldable pub findToken : List ℕ → List ℕ → ℕ → ℕ → ℕ → ℕ → Token
+findToken img text allowance s place moves =
     elim (leb (length text) place) [
-      | true ↦ token 0 0 moves
+      | true ↦ token 0 endOfText moves
       | false ↦
           let stop = scan img (less (validSet img s) (single 0)) (allowance - moves) (drop place text) in
           elim (stop .spent) [
-            | true ↦ refusal spent 0 0 (moves + stop .moves)
+            | true ↦ refusal allowanceUsedUp 0 0 (moves + stop .moves)
             | false ↦ elim (isEmpty (stop .set)) [
               | true ↦ rescan img text allowance place (moves + stop .moves)
               | false ↦ choose img (stop .set) (stop .length) (moves + stop .moves)
@@ -100,19 +101,19 @@ look img text allowance s place moves =
           ]
     ]
 
--- What an action comes to: the end, or a record to be written with the stack and the place after it. After a shift layout is skipped.
-pub data Turn : Type 0 where
-  ends : Ending → Turn
-  writes : (record-words stack : List ℕ) (place moves : ℕ) (shifted : Bool) → Turn
+-- What a step comes to: the end, or a record to be written with the stack and the place after it. After a shift layout is skipped.
+pub data Step : Type 0 where
+  ends : Ending → Step
+  writes : (record-words stack : List ℕ) (place moves : ℕ) (shifted : Bool) → Step
 
 -- "Shift: write a leaf, push." "Leaf: terminal, start, length, state that shifted it."
-abbrev pub shiftTo : ℕ → Standing → ℕ → ℕ → ℕ → Turn
-shiftTo s at terminal size moves =
+abbrev pub shiftTo : ℕ → Standing → ℕ → ℕ → ℕ → Step
+shiftTo s at size terminal moves =
     writes (terminal ∷ at .place ∷ size ∷ top (at .stack) ∷ []) (s ∷ at .stack) (at .place + size) moves true
 
 -- "Reduce p: drop len states, find goto of the uncovered state on lhs, write a node, push. Fewer than len+1 states or no goto:
 -- code 10." "Node: 64+lhs, production, len, state uncovered."
-unfoldable pub reduceBy : List ℕ → ℕ → Standing → ℕ → Turn
+unfoldable pub reduceBy : List ℕ → ℕ → Standing → ℕ → Step
 reduceBy img p at moves =
     let rest = drop (len img p) (at .stack) in
     elim (ltb (len img p) (length (at .stack))) [
@@ -123,8 +124,8 @@ reduceBy img p at moves =
       ]
     ]
 
--- "Accept: code 10 unless the stack holds exactly two states."
-unfoldable pub accept : Standing → ℕ → Turn
+-- "Accept: code 10 unless the stack holds exactly two states." Accept stands in column 0 alone, so the place is the text's length.
+unfoldable pub accept : Standing → ℕ → Step
 accept at moves =
     elim (eqb (length (at .stack)) 2) [
       | true ↦ ends (ending done (at .place) 0 0 (at .words) moves)
@@ -133,18 +134,18 @@ accept at moves =
 
 -- The action of the state on top for the terminal. A token is valid, so the error cell is met only at the end of the text:
 -- "At the end with bit 0 not in V(s): code 8."
-unfoldable pub perform : List ℕ → Action → Standing → ℕ → ℕ → ℕ → Turn
-perform img Error at terminal size moves = ends (ending unexpected (at .place) size terminal (at .words) moves)
-perform img Accept at terminal size moves = accept at moves
-perform img (Shift s) at terminal size moves = shiftTo s at terminal size moves
-perform img (Reduce p) at terminal size moves = reduceBy img p at moves
+unfoldable pub perform : List ℕ → Action → Standing → ℕ → ℕ → ℕ → Step
+perform img Error at size terminal moves = ends (ending unexpected (at .place) size terminal (at .words) moves)
+perform img Accept at size terminal moves = accept at moves
+perform img (Shift s) at size terminal moves = shiftTo s at size terminal moves
+perform img (Reduce p) at size terminal moves = reduceBy img p at moves
 
 -- One step: look for the terminal, and do what the cell says.
-unfoldable pub turn : List ℕ → List ℕ → ℕ → Standing → Turn
-turn img text allowance at =
-    elim (look img text allowance (top (at .stack)) (at .place) (at .moves)) [
+unfoldable pub step : List ℕ → List ℕ → ℕ → Standing → Step
+step img text allowance at =
+    elim (findToken img text allowance (top (at .stack)) (at .place) (at .moves)) [
       | refusal code size terminal moves ↦ ends (ending code (at .place) size terminal (at .words) moves)
-      | token terminal size moves ↦ perform img (actionOf (act img (top (at .stack)) terminal)) at terminal size moves
+      | token size terminal moves ↦ perform img (actionOf (act img (top (at .stack)) terminal)) at size terminal moves
     ]
 
 -- Layout after a shift, and nothing after a reduction.
@@ -153,22 +154,23 @@ settle img text allowance true place moves = skip img text allowance place moves
 settle img text allowance false place moves = record { spent = false; place = place; moves = moves }
 
 -- Step by step. The count is the room that is left, in records: each step that does not end the parse writes one.
--- "In one action code 10 comes first, then 11, then 12; such an action writes nothing."
+-- "In one action code 10 comes first, then 11, then 12; such an action writes nothing. Their place is where the parse stands:
+-- past skipped layout, before the token."
 unfoldable pub run : List ℕ → List ℕ → ℕ → ℕ → Standing → Ending
 run img text allowance zero at =
-    elim (turn img text allowance at) [
+    elim (step img text allowance at) [
       | ends e ↦ e
       | writes words stack place moves shifted ↦ ending treeFull (at .place) 0 0 (at .words) moves
     ]
 run img text allowance (suc left) at =
-    elim (turn img text allowance at) [
+    elim (step img text allowance at) [
       | ends e ↦ e
       | writes words stack place moves shifted ↦ elim (leb (length stack) mostStates) [
         | false ↦ ending stackFull (at .place) 0 0 (at .words) moves
         | true ↦
             let z = settle img text allowance shifted place moves in
             elim (z .spent) [
-              | true ↦ ending spent (z .place) 0 0 (at .words ++ words) (z .moves)
+              | true ↦ ending allowanceUsedUp (z .place) 0 0 (at .words ++ words) (z .moves)
               | false ↦ run img text allowance left (record { stack = stack; place = z .place; words = at .words ++ words; moves = z .moves })
             ]
       ]
@@ -179,7 +181,7 @@ unfoldable pub runAll : List ℕ → List ℕ → ℕ → ℕ → Ending
 runAll img text allowance room =
     let z = skip img text allowance 0 0 in
     elim (z .spent) [
-      | true ↦ ending spent (z .place) 0 0 [] (z .moves)
+      | true ↦ ending allowanceUsedUp (z .place) 0 0 [] (z .moves)
       | false ↦ run img text allowance room (record { stack = 0 ∷ []; place = z .place; words = []; moves = z .moves })
     ]
 

@@ -10,7 +10,7 @@ use Rattle.pack.specs.Image.{setAt, leastSize, greatestSize, layout, dom, lhs, 
 use Rattle.pack.specs.Shape.{rule, andThen, each, sizeRule, lengthRule, fits, layoutRule, domRight, domRule, isSymbol, symbolRule, prodRule, actRight, actRule, cellRule, gotoRules, moveRules, abovePrevious, rangeRule, emptyAtStart, scanRule, differs, groupRule, parserRules, scannerRules, headRules, shape}
 use Rattle.scan.specs.Scan.{remember, scanFrom}
 use Rattle.scan.specs.Token.{chosenIn, terminalOf}
-use Rattle.parse.specs.Parse.{skipFrom, rescan, choose, look, reduceBy, accept, perform, turn, settle, run, runAll, parse}
+use Rattle.parse.specs.Parse.{skipFrom, rescan, choose, findToken, reduceBy, accept, perform, step, settle, run, runAll, parse}
 use Rattle.checker.specs.Edges.{allBelow, someBelow, leastFrom, implies, isEdge, leads, onlyOn, sourcesFrom, reached}
 use Rattle.checker.specs.Tests.{outrankedFrom, k1, within, k2, k3, enters, entering, k4, reduces, steps, k5, k6}
 use Rattle.checker.specs.Check.{finding, least, find1, find2, find3, find4, find5, find6, report, check}
@@ -23,7 +23,7 @@ use Rattle.promise.specs.Marked.{cases, same, ofParse, ofCheck, right, a
 
 -- Every marked case, variant and check.
 pub marked : T (allRight cases)
-unfolding trailingZeros has member lacks isEmpty subset countBelow several setAt leastSize greatestSize layout dom lhs len symbol act goto move actionOf lo hi rangeClass acc rej poss groupSet chosen classIn validFrom rule andThen each sizeRule lengthRule fits layoutRule domRight domRule isSymbol symbolRule prodRule actRight actRule cellRule gotoRules moveRules abovePrevious rangeRule emptyAtStart scanRule differs groupRule parserRules scannerRules headRules shape remember scanFrom chosenIn terminalOf skipFrom rescan choose look reduceBy accept perform turn settle run runAll parse allBelow someBelow leastFrom implies isEdge leads onlyOn sourcesFrom reached outrankedFrom k1 within k2 k3 enters entering k4 reduces steps k5 k6 finding least find1 find2 find3 find4 find5 find6 report check small small11 small12 small12too cases same ofParse ofCheck right allRight
+unfolding trailingZeros has member lacks isEmpty subset countBelow several setAt leastSize greatestSize layout dom lhs len symbol act goto move actionOf lo hi rangeClass acc rej poss groupSet chosen classIn validFrom rule andThen each sizeRule lengthRule fits layoutRule domRight domRule isSymbol symbolRule prodRule actRight actRule cellRule gotoRules moveRules abovePrevious rangeRule emptyAtStart scanRule differs groupRule parserRules scannerRules headRules shape remember scanFrom chosenIn terminalOf skipFrom rescan choose findToken reduceBy accept perform step settle run runAll parse allBelow someBelow leastFrom implies isEdge leads onlyOn sourcesFrom reached outrankedFrom k1 within k2 k3 enters entering k4 reduces steps k5 k6 finding least find1 find2 find3 find4 find5 find6 report check small small11 small12 small12too cases same ofParse ofCheck right allRight
 marked = tt
 
 -- "Its image has 189 words".

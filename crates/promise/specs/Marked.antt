@@ -1,58 +1,56 @@
 -- Document 01, "Marked (proved)": the twelve cases with their variants, and the run of `tax by day`, as one table.
 -- proofs/Marked.antt proves it by one computed test.
 use mathlib.Core.Bool.{Bool, true, false, _&&_}
-use mathlib.Core.List.{List, [], _∷_}
-use Prim.Native.Nat.{ℕ, zero, suc, _*_}
+use mathlib.Core.List.{List, [], _∷_, _++_}
+use Prim.Native.Nat.{ℕ, _+_, _*_, _-_}
 use lib.Dec.{eqb}
-use lib.ListN.{replicate}
+use lib.ListN.{length, replicate}
 use Rattle.text.specs.Bytes.{bytes}
+use Rattle.pack.specs.Numbers.{greatestAllowance}
 use Rattle.parse.specs.declared.Parsed.{Parsed}
-use Rattle.parse.specs.Parse.{Ending, parse}
+use Rattle.parse.specs.Parse.{parse, treeAfter}
 use Rattle.checker.specs.declared.Checked.{Checked}
 use Rattle.checker.specs.Check.{check}
 use Rattle.promise.specs.SmallPack.{small, small11, small12, small12too}
 
 -- A parse of a text by a pack, with a tree of so many records and an allowance, gives code, place, length, terminal, records and
--- moves; it leaves these words of records; the check of a pack gives its code and three numbers.
+-- moves; it leaves these words of records at the front of the tree and the rest as it was; the check of a pack gives its code and three numbers.
 pub data Case : Type 0 where
   parses : (pack text : List ℕ) (room allowance : ℕ) (gives : List ℕ) → Case
   leaves : (pack text : List ℕ) (room allowance : ℕ) (words : List ℕ) → Case
   checks : (pack gives : List ℕ) → Case
 
--- "with ample room", and the greatest allowance.
+-- "with ample room".
 abbrev pub ample : ℕ
 ample = 8
-
-abbrev pub most : ℕ
-most = 4294967295
 
 unfoldable pub cases : List Case
 cases =
     -- 1 to 8
-    parses small (bytes "tax") ample most (0 ∷ 3 ∷ 0 ∷ 0 ∷ 2 ∷ 4 ∷ []) ∷
-    parses small (bytes "bye") ample most (0 ∷ 3 ∷ 0 ∷ 0 ∷ 2 ∷ 4 ∷ []) ∷
-    parses small (bytes "by") ample most (8 ∷ 0 ∷ 2 ∷ 1 ∷ 0 ∷ 5 ∷ []) ∷
-    parses small (bytes "") ample most (8 ∷ 0 ∷ 0 ∷ 0 ∷ 0 ∷ 0 ∷ []) ∷
-    parses small (bytes "7") ample most (7 ∷ 0 ∷ 0 ∷ 0 ∷ 0 ∷ 0 ∷ []) ∷
-    parses small (bytes "tax day") ample most (8 ∷ 4 ∷ 3 ∷ 2 ∷ 1 ∷ 10 ∷ []) ∷
-    parses small (bytes "tax by") ample most (8 ∷ 6 ∷ 0 ∷ 0 ∷ 2 ∷ 8 ∷ []) ∷
-    parses small (bytes " ") ample most (8 ∷ 1 ∷ 0 ∷ 0 ∷ 0 ∷ 1 ∷ []) ∷
+    parses small (bytes "tax") ample greatestAllowance (0 ∷ 3 ∷ 0 ∷ 0 ∷ 2 ∷ 4 ∷ []) ∷
+    parses small (bytes "bye") ample greatestAllowance (0 ∷ 3 ∷ 0 ∷ 0 ∷ 2 ∷ 4 ∷ []) ∷
+    parses small (bytes "by") ample greatestAllowance (8 ∷ 0 ∷ 2 ∷ 1 ∷ 0 ∷ 5 ∷ []) ∷
+    parses small (bytes "") ample greatestAllowance (8 ∷ 0 ∷ 0 ∷ 0 ∷ 0 ∷ 0 ∷ []) ∷
+    parses small (bytes "7") ample greatestAllowance (7 ∷ 0 ∷ 0 ∷ 0 ∷ 0 ∷ 0 ∷ []) ∷
+    parses small (bytes "tax day") ample greatestAllowance (8 ∷ 4 ∷ 3 ∷ 2 ∷ 1 ∷ 10 ∷ []) ∷
+    parses small (bytes "tax by") ample greatestAllowance (8 ∷ 6 ∷ 0 ∷ 0 ∷ 2 ∷ 8 ∷ []) ∷
+    parses small (bytes " ") ample greatestAllowance (8 ∷ 1 ∷ 0 ∷ 0 ∷ 0 ∷ 1 ∷ []) ∷
     -- 9: "allowance 3", and "allowance 4 is done"
     parses small (bytes "tax") ample 3 (13 ∷ 0 ∷ 0 ∷ 0 ∷ 0 ∷ 3 ∷ []) ∷
     parses small (bytes "tax") ample 4 (0 ∷ 3 ∷ 0 ∷ 0 ∷ 2 ∷ 4 ∷ []) ∷
     -- 10: "room 1"
-    parses small (bytes "tax") 1 most (11 ∷ 3 ∷ 0 ∷ 0 ∷ 1 ∷ 4 ∷ []) ∷
+    parses small (bytes "tax") 1 greatestAllowance (11 ∷ 3 ∷ 0 ∷ 0 ∷ 1 ∷ 4 ∷ []) ∷
     -- 11: "check gives 5 with K5, state 1, production 0"
     checks small11 (5 ∷ 5 ∷ 1 ∷ 0 ∷ []) ∷
-    parses small11 (bytes "tax") ample most (10 ∷ 3 ∷ 0 ∷ 0 ∷ 1 ∷ 4 ∷ []) ∷
+    parses small11 (bytes "tax") ample greatestAllowance (10 ∷ 3 ∷ 0 ∷ 0 ∷ 1 ∷ 4 ∷ []) ∷
     -- 12: "K1 at 2"
     checks small12 (5 ∷ 1 ∷ 2 ∷ 0 ∷ []) ∷
-    parses small12too (bytes "tax by by") ample most (9 ∷ 7 ∷ 2 ∷ 0 ∷ 2 ∷ 12 ∷ []) ∷
+    parses small12too (bytes "tax by by") ample greatestAllowance (9 ∷ 7 ∷ 2 ∷ 0 ∷ 2 ∷ 12 ∷ []) ∷
     -- "it passes"
     checks small (0 ∷ 0 ∷ 0 ∷ 0 ∷ []) ∷
     -- what `readq` prints for `tax by day`
-    parses small (bytes "tax by day") 6000 most (0 ∷ 10 ∷ 0 ∷ 0 ∷ 4 ∷ 13 ∷ []) ∷
-    leaves small (bytes "tax by day") 6000 most (2 ∷ 0 ∷ 3 ∷ 0 ∷ 1 ∷ 4 ∷ 2 ∷ 1 ∷ 2 ∷ 7 ∷ 3 ∷ 2 ∷ 64 ∷ 1 ∷ 3 ∷ 0 ∷ []) ∷ []
+    parses small (bytes "tax by day") 6000 greatestAllowance (0 ∷ 10 ∷ 0 ∷ 0 ∷ 4 ∷ 13 ∷ []) ∷
+    leaves small (bytes "tax by day") ample greatestAllowance (2 ∷ 0 ∷ 3 ∷ 0 ∷ 1 ∷ 4 ∷ 2 ∷ 1 ∷ 2 ∷ 7 ∷ 3 ∷ 2 ∷ 64 ∷ 1 ∷ 3 ∷ 0 ∷ []) ∷ []
 
 -- Two lists of numbers are the same.
 unfoldable pub same : List ℕ → List ℕ → Bool
@@ -66,15 +64,16 @@ unfoldable pub ofParse : Parsed → List ℕ
 ofParse p = p .code ∷ p .place ∷ p .length ∷ p .terminal ∷ p .records ∷ p .moves ∷ []
 
 unfoldable pub ofCheck : Checked → List ℕ
-ofCheck c = c .code ∷ c .first ∷ c .second ∷ c .third ∷ []
+ofCheck c = c .code ∷ c .number ∷ c .first ∷ c .second ∷ []
 
--- A tree of so many records.
+-- A tree with room for so many records, three words over, each of them 7.
 abbrev pub treeOf : ℕ → List ℕ
-treeOf room = replicate (room * 4) 0
+treeOf room = replicate (room * 4 + 3) 7
 
 unfoldable pub right : Case → Bool
 right (parses pack text room allowance gives) = same (ofParse (parse pack text (treeOf room) allowance .parsed)) gives
-right (leaves pack text room allowance words) = same (parse pack text (treeOf room) allowance .words) words
+right (leaves pack text room allowance words) =
+    same (treeAfter (treeOf room) (parse pack text (treeOf room) allowance)) (words ++ replicate (room * 4 + 3 - length words) 7)
 right (checks pack gives) = same (ofCheck (check pack)) gives
 
 unfoldable pub allRight : List Case → Bool

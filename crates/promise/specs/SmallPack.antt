@@ -1,8 +1,9 @@
 -- Document 01, "A small pack and its runs": `by` outranks names; blanks are layout; S is `name` or `name by name`.
 -- Terminals: 0 the end, 1 `by`, 2 a name, 3 blanks. A line of words for each line of the text.
 use mathlib.Core.List.{List, [], _∷_, _++_}
-use Prim.Native.Nat.{ℕ}
+use Prim.Native.Nat.{ℕ, _+_}
 use lib.ListN.{set}
+use Rattle.pack.specs.Image.{actAt, gotoAt, scanAt}
 use Rattle.text.specs.Bytes.{bytes}
 
 -- The 189 words of its image.
@@ -91,11 +92,11 @@ smallText =
 
 -- Case 11: "First goto row 0".
 unfoldable pub small11 : List ℕ
-small11 = set small 81 0
+small11 = set small (gotoAt small 0 0) 0
 
 -- Case 12: "Scan state 2 as 6,0,6", and "with act row 2 as 0,8,8,0 too".
 unfoldable pub small12 : List ℕ
-small12 = set (set small 153 6) 157 0
+small12 = set (set small (scanAt small 2) 6) (scanAt small 2 + 4) 0
 
 unfoldable pub small12too : List ℕ
-small12too = set small12 70 8
+small12too = set small12 (actAt small 2 1) 8

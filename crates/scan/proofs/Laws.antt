@@ -13,7 +13,7 @@ use borrow.Author.Tests.{eq-eqb, ne-eqb, le-leb, lt-leb, lt-ltb, le-ltb}
 use Rattle.sets.specs.Sets.{isEmpty}
 use Rattle.pack.specs.declared.Verdict.{Verdict}
 use Rattle.pack.specs.Numbers.{queryTooLong, wrongShape}
-use Rattle.pack.specs.Image.{classOf, move, acc, rej, poss, tokens}
+use Rattle.pack.specs.Image.{classOf, move, acc, rej, poss, allButEnd}
 use Rattle.pack.specs.Shape.{isWrong, placeOf, shape}
 use Rattle.pack.proofs.Laws.{is-good, is-wrong}
 use Rattle.scan.specs.declared.Remembered.{Remembered}
@@ -67,7 +67,7 @@ module _ (img text : List ℕ) (start set allowance : ℕ) where
         let q = is-wrong v w in
         simp (scanAlone, le-ltb _ _ h, sym e ∙ q .1) (ap (refused wrongShape) (ep ∙ ap placeOf (q .1)))
 
-    pub alone-scan : {p t k : ℕ} {rest : List ℕ} {stop : Stop} → isWrong v ≡ false → p ≡ min start (length text) → t ≡ tokens img → rest ≡ drop p text
+    pub alone-scan : {p t k : ℕ} {rest : List ℕ} {stop : Stop} → isWrong v ≡ false → p ≡ min start (length text) → t ≡ allButEnd img → rest ≡ drop p text
         → stop ≡ scan img (bitAnd set t) allowance rest → k ≡ codeOf (stop .spent)
         → record { code = k; place = p; set = stop .set; length = stop .length; moves = stop .moves } ≡ scanAlone img text start set allowance
     unfolding scanAlone

@@ -53,5 +53,5 @@ module _ (img : List ℕ) (good : shape img ≡ Good) (b : ℕ) where
       record {
         within = omega arith;
         ahead = λ m. omega (arith, good-range img good (r + 1) m, good-above img good r m);
-        same = λ c m. class-past img c r l (omega arith)
+        same = λ c m. class-past img c r l (omega arith);
       }

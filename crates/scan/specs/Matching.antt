@@ -1,4 +1,6 @@
--- What "matches" means, through the moves from scan state 0. The scan does not use this file: the promises about it do.
+-- What demand 3 of the letter means by matching, through the moves from scan state 0. The scan does not use this file: the
+-- promises about it do. A terminal matches some bytes where it is in M = acc ∪ rej after them: it is accepted there, or rejected.
+-- Only what is accepted is a match of the scan. That a rejected terminal is one that is outranked is condition K1 of the check.
 use mathlib.Core.Path.{_≡_}
 use mathlib.Core.List.{List, [], _∷_}
 use Prim.Native.Nat.{ℕ, zero, suc}
@@ -14,7 +16,7 @@ ledFrom img q (b ∷ bytes) = elim (move img q (classOf img b)) [ zero ↦ 0 | s
 pub record Leads (img bytes : List ℕ) (q : ℕ) : Type 0 where
   pub way : ledFrom img 0 bytes ≡ suc q
 
--- Terminal t is accepted after these bytes, or it is rejected: it matches them, but something that outranks it does too.
+-- Terminal t is accepted after these bytes; it is rejected after them.
 pub record Accepts (img bytes : List ℕ) (t : ℕ) : Type 0 where
   pub state : ℕ
   pub leads : Leads img bytes state

@@ -7,8 +7,8 @@ use lib.ListN.{length, drop}
 use Rattle.sets.specs.Sets.{meet, isEmpty}
 use Rattle.pack.specs.declared.Verdict.{Verdict}
 use Rattle.pack.specs.declared.Verdict.the-variants.{Good, Wrong}
-use Rattle.pack.specs.Numbers.{done, wrongShape, queryTooLong, spent, longestText}
-use Rattle.pack.specs.Image.{classOf, move, acc, rej, poss, tokens}
+use Rattle.pack.specs.Numbers.{done, wrongShape, queryTooLong, allowanceUsedUp, longestText}
+use Rattle.pack.specs.Image.{classOf, move, acc, rej, poss, allButEnd}
 use Rattle.pack.specs.Shape.{shape}
 use Rattle.scan.specs.declared.Remembered.{Remembered}
 use Rattle.scan.specs.declared.Stop.{Stop}
@@ -34,7 +34,7 @@ stopped kept n = record { spent = false; set = kept .set; length = kept .length;
 abbrev pub usedUp : ℕ → Stop
 usedUp n = record { spent = true; set = 0; length = 0; moves = n }
 
--- The scan in state q after n moves, over the bytes that are left: "Stop if poss ∩ V is empty, or no byte is left,
+-- The scan in state q after n moves, each of which took one byte, over the bytes that are left: "Stop if poss ∩ V is empty, or no byte is left,
 -- or there is no move. Otherwise take the move, which counts 1", and look at the new state.
 unfoldable pub scanFrom : List ℕ → ℕ → ℕ → List ℕ → ℕ → ℕ → Remembered → Stop
 scanFrom img v allowance [] q n kept = stopped kept n
@@ -60,7 +60,7 @@ refused code place = record { code = code; place = place; set = 0; length = 0; m
 
 -- 13 where the allowance was used up, else 0.
 unfoldable pub codeOf : Bool → ℕ
-codeOf true = spent
+codeOf true = allowanceUsedUp
 codeOf false = done
 
 -- Its answer for what a scan from the place gives: 13 or 0. "With 0 the place is the start, and set and length are 0
@@ -85,6 +85,6 @@ scanAlone img text start set allowance =
         | Wrong place ↦ refused wrongShape place
         | Good ↦
             let place = min start (length text) in
-            answer place (scan img (meet set (tokens img)) allowance (drop place text))
+            answer place (scan img (meet set (allButEnd img)) allowance (drop place text))
       ]
     ]

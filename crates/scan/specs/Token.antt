@@ -15,6 +15,6 @@ abbrev pub chosenOf : List ℕ → ℕ → ℕ
 chosenOf img set = chosenIn img set (groups img) 0
 
 -- "a set of several terminals must equal a group, whose chosen terminal is taken; if it equals none, that is code 9":
--- 1 more than the terminal, or 0 for code 9.
+-- 1 more than the terminal of a set that is not empty, or 0 for code 9.
 unfoldable pub terminalOf : List ℕ → ℕ → ℕ
 terminalOf img set = elim (several set) [ false ↦ suc (lowest set) | true ↦ chosenOf img set ]

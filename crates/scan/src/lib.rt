@@ -3,12 +3,11 @@ ghost use mathlib.Core.Path.{_≡_};
 ghost use Prim.Native.Nat.{ℕ, _+_, _<_, _≤_, min};
 ghost use lib.ListN.{length};
 ghost use Rattle.pack.specs.declared.Verdict.the-variants.{Good};
-ghost use Rattle.pack.specs.Image.{scanStates, move, classOf, tokens};
+ghost use Rattle.pack.specs.Image.{scanStates, move, classOf, allButEnd};
 ghost use Rattle.pack.specs.Laid.{Laid};
 ghost use Rattle.pack.specs.Shape.{shape};
 ghost use Rattle.scan.specs.Classed.{Classed};
 ghost use Rattle.scan.specs.Scan.{remember, scan, codeOf, refused, scanAlone};
-
 use pack::image;
 
 pub mod classes; // classes.rt: the row of 256 classes
@@ -112,10 +111,10 @@ pub fn one_scan(img: &[u16], row: &[u8; 256], v: u64, allowance: usize, bytes: &
     }
 }
 
-// All terminals but 0.
-pub fn tokens(img: &[u16]) -> u64
+// All terminals but the end of the text.
+pub fn all_but_end(img: &[u16]) -> u64
     requires { ⌜ Laid (now img) ⌝ }
-    ensures { λ r. ⌜ r ≡ tokens (now (img .entry)) ⌝ }
+    ensures { λ r. ⌜ r ≡ allButEnd (now (img .entry)) ⌝ }
 {
     let t = image::terminals(img);
     if t < 64 {
@@ -147,7 +146,13 @@ pub fn scan(img: &[u16], text: &[u8], start: usize, set: u64, allowance: u32) ->
     }
     let place = within(start, text.len());
     let row = classes::class_row(img);
-    let stop = one_scan(img, &row, set & tokens(img), allowance as usize, &text[place..]);
+    let stop = one_scan(
+        img,
+        &row,
+        set & all_but_end(img),
+        allowance as usize,
+        &text[place..],
+    );
     Scanned {
         code: code_of(stop.spent),
         place,

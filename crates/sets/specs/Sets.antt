@@ -1,16 +1,17 @@
 -- Document 01, "The pack": "A set is 64 bits, bit t for terminal t."
--- A set is a number below 2 ^ 64. Laws about these definitions stand in proofs/Laws.antt.
+-- A set of terminals is a number below 2 ^ 64. (The check also keeps sets of parse states this way, 128 bits wide.)
+-- Laws about these definitions stand in proofs/Laws.antt.
 use mathlib.Core.Bool.{Bool}
 use Prim.Native.Nat.{ℕ, zero, suc, _+_, _-_, _/_, _%_, _^_}
 use lib.Dec.{eqb, leb}
 use lib.Bits.{bitAnd, bitOr}
 use lib.Count.{trailingZeros}
 
--- Bit t of the set: 1 where terminal t is in it, else 0.
+-- Bit t of the set: 1 where t is in it, else 0.
 unfoldable pub has : ℕ → ℕ → ℕ
 has set t = set / 2 ^ t % 2
 
--- Terminal t is in the set; it is not.
+-- t is in the set; t is lacking from it.
 unfoldable pub member : ℕ → ℕ → Bool
 member set t = eqb (has set t) 1
 

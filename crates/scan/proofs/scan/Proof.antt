@@ -23,8 +23,8 @@ class-row-requires c κs =
     let good = sym (w .before .shape .ensures) ∙ is-good _ (sym (w .is-wrong .ensures) ∙ c .before .if2 .left) in
     (good-laid _ good, good)
 
-tokens-requires : tie.Need-tokens-requires
-tokens-requires c κs =
+all-but-end-requires : tie.Need-all-but-end-requires
+all-but-end-requires c κs =
     let i = c .before .before .before in
     let w = i .before in
     good-laid _ (sym (w .before .shape .ensures) ∙ is-good _ (sym (w .is-wrong .ensures) ∙ i .if2 .left))
@@ -43,10 +43,10 @@ returns-3 c =
     let p = t .before .before .before in
     let i = p .before in
     let s = i .before .before in
-    alone-scan _ _ _ _ _ (s .before .if1 .left) (s .shape .ensures) (sym (i .before .is-wrong .ensures) ∙ i .if2 .left) (p .within .ensures) (t .tokens .ensures)
+    alone-scan _ _ _ _ _ (s .before .if1 .left) (s .shape .ensures) (sym (i .before .is-wrong .ensures) ∙ i .if2 .left) (p .within .ensures) (t .all-but-end .ensures)
     (rest-of (s .before .before .before .before .args .text .now) (p .within .result)) (c .before .one-scan .ensures) (c .code-of .ensures)
 
 pub scan-spec : {M : Type 1} → statement M
 scan-spec =
     tie.close
-    (tie.spec (λ c κs. search needs) returns (λ c κs. search needs) (λ c κs. search needs) (λ c κs. search needs) (λ c κs. search needs) returns-2 (λ c κs. search needs) class-row-requires tokens-requires (λ c. search needs) (λ c. search needs) (λ c. search needs) one-scan-requires (λ c κs. search needs) returns-3)
+    (tie.spec (λ c κs. search needs) returns (λ c κs. search needs) (λ c κs. search needs) (λ c κs. search needs) (λ c κs. search needs) returns-2 (λ c κs. search needs) class-row-requires all-but-end-requires (λ c. search needs) (λ c. search needs) (λ c. search needs) one-scan-requires (λ c κs. search needs) returns-3)

@@ -36,8 +36,7 @@ loop-again : tie.Need-loop-again Inv-loop μ-loop
 loop-again c =
     let f = c .before .range-for .ensures in
     let l = c .before .before .before .loop in
-    let v = l .inv in
-    (
+    let v = l .inv in (
       omega arith,
       simp length-set (v .1),
       f .within,

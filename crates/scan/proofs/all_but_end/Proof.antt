@@ -5,8 +5,8 @@ use native.Mathlib.Omega.{arith}
 use lib.Pow.{pow-mono}
 use Rattle.pack.specs.Image.{terminals}
 use Rattle.sets.proofs.Laws.{one-shifted}
-use Rattle.scan.proofs.tokens.Statement.{statement}
-use Rattle.scan.proofs.tokens.Tie as tie
+use Rattle.scan.proofs.all_but_end.Statement.{statement}
+use Rattle.scan.proofs.all_but_end.Tie as tie
 
 sub-result : tie.Need-sub-result
 sub-result c =
@@ -24,7 +24,7 @@ returns-2 c =
     let all : terminals (c .before .before .before .args .img .now) ≡ 64 = omega (arith, c .before .terminals .ensures) in
     rw all
 
-pub tokens-spec : {M : Type 1} → statement M
-tokens-spec =
+pub all-but-end-spec : {M : Type 1} → statement M
+all-but-end-spec =
     tie.close
     (tie.spec (λ c κs. search needs) (λ c. search needs) sub-result returns returns-2)
