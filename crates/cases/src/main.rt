@@ -1,0 +1,165 @@
+// Reads a case file on standard input and writes an answer line for each case: second/README.md has the format. What matters is in the
+// libraries: this program moves bytes and prints numbers. A kind of case that it does not know gives an empty line.
+use libc::STDIN_FILENO;
+use libc::STDOUT_FILENO;
+ghost use Prim.Native.Nat.{_+_, _*_, _<_, _≤_};
+ghost use lib.ListN.{length};
+
+// A length that says: as in the case before.
+const SAME: usize = 4294967295;
+
+fn print(n: u64, end: u8) {
+    io::print_decimal(STDOUT_FILENO, n);
+    io::write_all(STDOUT_FILENO, &[end]);
+}
+
+fn wide(b: u8) -> usize
+    ensures { λ r. ⌜ r < 256 ⌝ }
+{
+    b as usize
+}
+
+// Two bytes as a word, the low one first.
+fn word(low: u8, high: u8) -> u16 {
+    (low as u16) + (high as u16) * 256
+}
+
+// Number i of the ten in a case's header.
+fn number(head: &[u8; 40], i: usize) -> usize
+    requires { ⌜ i < 10 ⌝ }
+    ensures { λ r. ⌜ r < 4294967296 ⌝ }
+{
+    wide(head[i * 4]) + wide(head[i * 4 + 1]) * 256 + wide(head[i * 4 + 2]) * 65536 + wide(head[i * 4 + 3]) * 16777216
+}
+
+fn least(a: usize, b: usize) -> usize
+    ensures { λ r. ⌜ (r ≤ a) × (r ≤ b) ⌝ }
+{
+    if a < b { a } else { b }
+}
+
+// The words of pairs of bytes, the low one first, as many as there is room for.
+fn join(raw: &[u8], img: &mut [u16]) {
+    let n = least(raw.len() / 2, img.len());
+    let mut i: usize = 0;
+    while i < n {
+        img[i] = word(raw[i * 2], raw[i * 2 + 1]);
+        i += 1;
+    }
+}
+
+// The first n words or bytes, or all where there are fewer.
+fn words(img: &[u16], n: usize) -> &[u16] {
+    let k = least(n, img.len());
+    &img[..k]
+}
+
+fn bytes(text: &[u8], n: usize) -> &[u8] {
+    let k = least(n, text.len());
+    &text[..k]
+}
+
+fn shape(img: &[u16]) {
+    let v = pack::shape(img);
+    if pack::is_wrong(v) {
+        print(4, b',');
+    } else {
+        print(0, b',');
+    }
+    print(pack::place_of(v) as u64, b'\n');
+}
+
+fn scan(img: &[u16], text: &[u8], head: &[u8; 40]) {
+    let set = (number(head, 4) as u64) + (number(head, 5) as u64) * 4294967296;
+    let r = scan::scan(img, text, number(head, 3), set, number(head, 6) as u32);
+    print(r.code as u64, b',');
+    print(r.place as u64, b',');
+    print(r.set, b',');
+    print(r.length as u64, b',');
+    print(r.moves as u64, b'\n');
+}
+
+fn answer(head: &[u8; 40], img: &[u16], text: &[u8]) {
+    let kind = number(head, 0);
+    if kind == 1 {
+        shape(img);
+        return;
+    }
+    if kind == 2 {
+        scan(img, text, head);
+        return;
+    }
+    io::write_all(STDOUT_FILENO, b"\n");
+}
+
+// The next n bytes of the input, or as many as there is room for, at the front of the buffer.
+fn fill(buf: &mut [u8], n: usize) {
+    let k = least(n, buf.len());
+    io::read_full(STDIN_FILENO, &mut buf[..k]);
+}
+
+// Reads the image of a case and gives its length, or that of the case before.
+fn read_image(given: usize, before: usize, img: &mut [u16]) -> usize {
+    if given == SAME {
+        return before;
+    }
+    let n = least(given, 20700);
+    let mut raw = [0u8; 41400];
+    fill(&mut raw, n * 2);
+    join(&raw, img);
+    n
+}
+
+// Reads the text of a case in the same way.
+fn read_text(given: usize, before: usize, text: &mut [u8]) -> usize {
+    if given == SAME {
+        return before;
+    }
+    fill(text, given);
+    given
+}
+
+// The lengths of the image and the text, and whether a case was there.
+struct Held {
+    more: bool,
+    words: usize,
+    bytes: usize,
+}
+
+fn one_case(head: &mut [u8; 40], img: &mut [u16; 20700], text: &mut [u8; 65600], held: Held) -> Held {
+    if io::read_full(STDIN_FILENO, head) < 40 {
+        return Held {
+            more: false,
+            words: 0,
+            bytes: 0,
+        };
+    }
+    let n = read_image(number(head, 1), held.words, img);
+    let m = read_text(number(head, 2), held.bytes, text);
+    answer(head, words(img, n), bytes(text, m));
+    Held {
+        more: true,
+        words: n,
+        bytes: m,
+    }
+}
+
+fn main() {
+    let mut head = [0u8; 40];
+    let mut img = [0u16; 20700];
+    let mut text = [0u8; 65600];
+    let mut held = Held {
+        more: true,
+        words: 0,
+        bytes: 0,
+    };
+    let mut turns = u64::MAX;
+    while turns > 0 {
+        held = one_case(&mut head, &mut img, &mut text, held);
+        let more = held.more;
+        if !more {
+            return;
+        }
+        turns -= 1;
+    }
+}

@@ -1,0 +1,677 @@
+//! Cases of all kinds from the three sources, in bundles that share an image or a text.
+
+use std::collections::BTreeMap;
+use std::rc::Rc;
+
+use super::damage::{self, TextBreak};
+use super::passing::{passing, Drops, Language, Scale};
+use super::query;
+use super::random;
+use super::rng::Rng;
+use super::tables::Tables;
+use super::wide;
+use crate::cases::{Case, Image, Text, MOST_BYTES, MOST_TREE, MOST_WORDS};
+use crate::image::{Pack, PROD_SYMBOLS};
+use crate::numbers::{DONE, RECORD_WORDS, TEXT_LIMIT};
+use crate::parse::parse;
+use crate::scan::scan;
+use crate::sets::{self, Set};
+use crate::shape::{self, Rule};
+use crate::text::text_of;
+
+/// The kinds of cases wanted.
+#[derive(Clone, Copy, Debug, PartialEq, Eq)]
+pub struct Kinds {
+    /// Shape and the scan called by itself.
+    pub scan: bool,
+    /// Reader and writer.
+    pub text: bool,
+    /// Check, parse and leaf.
+    pub parse: bool,
+}
+
+impl Kinds {
+    pub const ALL: Kinds = Kinds {
+        scan: true,
+        text: true,
+        parse: true,
+    };
+}
+
+/// An image, and the language that it was made for, if there is one.
+struct Subject {
+    image: Image,
+    language: Option<Rc<Language>>,
+}
+
+/// How many moves a probing parse may take, so that no case takes long.
+const PROBE: u32 = 2_000_000;
+
+pub struct Mix {
+    rng: Rng,
+    kinds: Kinds,
+    /// Small packs only, for stored files.
+    small: bool,
+    bundles: usize,
+    pub drops: Drops,
+    /// How often each way to break a text was taken.
+    pub breaks: BTreeMap<TextBreak, usize>,
+}
+
+impl Mix {
+    pub fn new(seed: u64, kinds: Kinds, small: bool) -> Mix {
+        Mix {
+            rng: Rng::new(seed),
+            kinds,
+            small,
+            bundles: 0,
+            drops: Drops::default(),
+            breaks: BTreeMap::new(),
+        }
+    }
+
+    /// The next cases.
+    pub fn bundle(&mut self) -> Vec<Case> {
+        self.bundles += 1;
+        if !self.small && self.bundles % 40 == 20 {
+            return self.long_bundle();
+        }
+        let subject = self.subject();
+        self.cases_of(&subject)
+    }
+
+    fn scale(&mut self) -> Scale {
+        match (self.small, self.rng.below(100)) {
+            (true, 0..=59) | (false, 0..=24) => Scale::Tiny,
+            (true, _) | (false, 25..=74) => Scale::Small,
+            (false, 75..=92) => Scale::Middle,
+            (false, 93..=97) => Scale::Large,
+            _ => Scale::Greatest,
+        }
+    }
+
+    fn subject(&mut self) -> Subject {
+        let (tables, language) = self.good_tables();
+        let mut image = tables.image();
+        if self.rng.percent(18) {
+            image = damage::image(&mut self.rng, &image);
+        }
+        Subject {
+            image: Rc::new(image),
+            language: language.map(Rc::new),
+        }
+    }
+
+    /// Tables of good shape: passing, passing but for some changes, random, or looping.
+    fn good_tables(&mut self) -> (Tables, Option<Language>) {
+        if self.small && self.kinds.text && self.rng.percent(70) {
+            // The reader and the writer look at the shape only, so very small ones serve them best.
+            let sizes = random::least_sizes(&mut self.rng);
+            return (random::tables(&mut self.rng, sizes), None);
+        }
+        match self.rng.below(100) {
+            0..=39 => {
+                let scale = self.scale();
+                let passing = passing(&mut self.rng, scale, &mut self.drops);
+                (passing.tables, Some(passing.language))
+            }
+            40..=74 => {
+                let scale = self.scale();
+                let passing = passing(&mut self.rng, scale, &mut self.drops);
+                let mut tables = passing.tables;
+                for _ in 0..self.rng.from_to(1, 4) {
+                    random::change(&mut self.rng, &mut tables);
+                }
+                (tables, Some(passing.language))
+            }
+            75..=88 => {
+                let large = !self.small && self.rng.once_in(15);
+                let sizes = random::sizes(&mut self.rng, large);
+                (random::tables(&mut self.rng, sizes), None)
+            }
+            _ => (random::looping(&mut self.rng), None),
+        }
+    }
+
+    /// All wanted kinds of cases for one image, and some for damaged and changed copies of it.
+    fn cases_of(&mut self, subject: &Subject) -> Vec<Case> {
+        let mut cases = Vec::new();
+        let good = shape::pack(&subject.image).is_ok();
+        if self.kinds.scan {
+            cases.push(Case::Shape {
+                image: subject.image.clone(),
+            });
+        }
+        if self.kinds.parse {
+            cases.push(Case::Check {
+                image: subject.image.clone(),
+            });
+        }
+        if self.kinds.text {
+            self.writes(subject, &mut cases);
+            self.reads(subject, &mut cases);
+        }
+        if self.kinds.scan || self.kinds.parse {
+            let texts = if good { self.rng.from_to(1, 3) } else { 1 };
+            for _ in 0..texts {
+                let text = Rc::new(self.query(subject));
+                if self.kinds.scan {
+                    self.scans(subject, &text, &mut cases);
+                }
+                if self.kinds.parse {
+                    self.parses(subject, &text, &mut cases);
+                }
+            }
+            if self.kinds.scan {
+                self.rejected_scans(subject, &mut cases);
+            }
+        }
+        // Copies of a large image would make the files large, and take long.
+        if good && subject.image.len() < 2_000 {
+            let (copies, damaged) = if self.small { (1, 2) } else { (4, 8) };
+            for _ in 0..damaged {
+                self.damaged_copy(subject, &mut cases);
+            }
+            if self.kinds.parse {
+                for _ in 0..copies {
+                    self.changed_copy(subject, &mut cases);
+                }
+            }
+        }
+        cases
+    }
+
+    fn damaged_copy(&mut self, subject: &Subject, cases: &mut Vec<Case>) {
+        let copy = Subject {
+            image: Rc::new(damage::image(&mut self.rng, &subject.image)),
+            language: None,
+        };
+        let image = &copy.image;
+        if self.kinds.scan {
+            cases.push(Case::Shape {
+                image: image.clone(),
+            });
+        }
+        if self.kinds.text && self.rng.once_in(5) {
+            self.writes(&copy, cases);
+            if let Some(text) = Mix::writable(image) {
+                let room = self.rng.from_to(0, image.len());
+                cases.push(Case::Read {
+                    text: Rc::new(text),
+                    room: room as u32,
+                });
+            }
+        }
+        if self.kinds.parse && self.rng.once_in(10) {
+            cases.push(Case::Check {
+                image: image.clone(),
+            });
+        }
+    }
+
+    fn changed_copy(&mut self, subject: &Subject, cases: &mut Vec<Case>) {
+        let mut tables = Tables::of(&Pack::new(&subject.image));
+        for _ in 0..self.rng.from_to(1, 3) {
+            random::change(&mut self.rng, &mut tables);
+        }
+        let copy = Subject {
+            image: Rc::new(tables.image()),
+            language: None,
+        };
+        cases.push(Case::Check {
+            image: copy.image.clone(),
+        });
+        // A query that the image itself may accept, so that the parse gets to the changes.
+        let text = Rc::new(self.query(subject));
+        self.parses(&copy, &text, cases);
+    }
+
+    fn query(&mut self, subject: &Subject) -> Vec<u8> {
+        let rng = &mut self.rng;
+        let likely = match shape::pack(&subject.image) {
+            Ok(pack) => query::likely_bytes(rng, &pack),
+            Err(_) => vec![b'a', b' ', b'0'],
+        };
+        let longest = *rng.pick(&[3, 10, 10, 30, 60]);
+        let rejected = match shape::pack(&subject.image) {
+            Ok(pack) if rng.once_in(8) => Mix::rejected_text(rng, &pack),
+            _ => None,
+        };
+        let mut text = match &subject.language {
+            _ if rejected.is_some() => rejected.map_or_else(Vec::new, |(text, _)| text),
+            Some(language) if rng.percent(70) => {
+                // Half of them are to be accepted, if a few attempts find one that is.
+                let attempts = *rng.pick(&[1, 6]);
+                let mut text = Vec::new();
+                for _ in 0..attempts {
+                    text = query::derived(rng, language, &likely);
+                    let mut tree = [0; MOST_TREE];
+                    if parse(&subject.image, &text, &mut tree, PROBE).code == DONE {
+                        break;
+                    }
+                }
+                text
+            }
+            None if rng.once_in(3) => query::repeated(rng, &likely),
+            _ => query::random(rng, &likely, longest),
+        };
+        // Files stay small: a long query stands for itself only now and then.
+        if self.small && text.len() > 120 && !rng.once_in(6) {
+            text.truncate(rng.from_to(0, 120));
+        }
+        text.truncate(3_000);
+        text
+    }
+
+    /// Scans of one text, with various starts, sets and allowances.
+    fn scans(&mut self, subject: &Subject, text: &Text, cases: &mut Vec<Case>) {
+        let Ok(pack) = shape::pack(&subject.image) else {
+            cases.push(self.scan_case(subject, text, 0, Set::MAX, u32::MAX));
+            return;
+        };
+        let more = if self.small { 4 } else { 0 };
+        for _ in 0..self.rng.from_to(2, 5) + more {
+            let rng = &mut self.rng;
+            let (start, set) = Mix::start_and_set(rng, &subject.image, &pack, text);
+            cases.push(self.scan_case(subject, text, start as u32, set, u32::MAX));
+            let moves = scan(&subject.image, text, start, set, PROBE).moves;
+            if moves > 0 && self.rng.percent(40) {
+                let allowance = match self.rng.below(4) {
+                    0 => moves,
+                    1 => moves - 1,
+                    2 => 0,
+                    _ => self.rng.from_to(0, moves as usize) as u32,
+                };
+                cases.push(self.scan_case(subject, text, start as u32, set, allowance));
+            }
+        }
+    }
+
+    /// A text that comes to a scan state where something is rejected, sometimes with more bytes behind, and that state.
+    /// Mostly it is something that the first parse state sees.
+    fn rejected_text(rng: &mut Rng, pack: &Pack) -> Option<(Vec<u8>, usize)> {
+        let seen = match rng.percent(70) {
+            true => pack.valid_set(0),
+            false => Set::MAX,
+        };
+        let rejecting: Vec<usize> = (0..pack.sizes.scan_states)
+            .filter(|&q| pack.rej(q) & seen != sets::EMPTY)
+            .collect();
+        if rejecting.is_empty() {
+            return None;
+        }
+        let q = *rng.pick(&rejecting);
+        let mut text = query::path_to(rng, pack, q)?;
+        if rng.percent(50) {
+            let likely = query::likely_bytes(rng, pack);
+            text.extend(query::random(rng, &likely, 3));
+        }
+        Some((text, q))
+    }
+
+    /// Scans of such texts, with the rejected terminals and without those that outrank them.
+    fn rejected_scans(&mut self, subject: &Subject, cases: &mut Vec<Case>) {
+        let Ok(pack) = shape::pack(&subject.image) else {
+            return;
+        };
+        for _ in 0..2 {
+            let rng = &mut self.rng;
+            let Some((text, q)) = Mix::rejected_text(rng, &pack) else {
+                continue;
+            };
+            let all = sets::below(pack.sizes.terminals);
+            let more = match rng.below(3) {
+                0 => all,
+                1 => rng.set(all, 40),
+                _ => sets::EMPTY,
+            };
+            let set = (pack.rej(q) | more) & !pack.acc(q);
+            cases.push(self.scan_case(subject, &Rc::new(text), 0, set, u32::MAX));
+        }
+    }
+
+    /// Where to scan and with which set: half of them are to match, if a few attempts find some that do.
+    fn start_and_set(rng: &mut Rng, image: &[u16], pack: &Pack, text: &[u8]) -> (usize, Set) {
+        let attempts = *rng.pick(&[1, 6]);
+        let mut found = (0, 0);
+        for _ in 0..attempts {
+            let start = match rng.below(12) {
+                0 => text.len() + rng.below(3),
+                1 => rng.number() as u32 as usize,
+                2..=6 => 0,
+                _ => rng.from_to(0, text.len()),
+            };
+            let set = match rng.below(10) {
+                0..=4 => pack.valid_set(rng.below(pack.sizes.states)),
+                5 => pack.layout(),
+                6 => Set::MAX,
+                7 => rng.number(),
+                8 => sets::below(pack.sizes.terminals) & !pack.layout(),
+                _ => rng.set(sets::below(pack.sizes.terminals), 40),
+            };
+            found = (start, set);
+            if scan(image, text, start, set, PROBE).length > 0 {
+                break;
+            }
+        }
+        found
+    }
+
+    fn scan_case(
+        &self,
+        subject: &Subject,
+        text: &Text,
+        start: u32,
+        set: Set,
+        allowance: u32,
+    ) -> Case {
+        Case::Scan {
+            image: subject.image.clone(),
+            text: text.clone(),
+            start,
+            set,
+            allowance,
+        }
+    }
+
+    /// Parses of one text with ample, exact and too small rooms and allowances, and its leaves.
+    fn parses(&mut self, subject: &Subject, text: &Text, cases: &mut Vec<Case>) {
+        let mut tree = vec![0; MOST_TREE];
+        let probe = parse(&subject.image, text, &mut tree, PROBE);
+        let rng = &mut self.rng;
+        let needed = probe.records as usize * RECORD_WORDS;
+        let mut pairs = vec![(needed + rng.below(40), probe.moves.max(1).saturating_mul(2))];
+        if probe.records > 0 && rng.percent(50) {
+            let less = rng.below(probe.records as usize);
+            pairs.push((less * RECORD_WORDS + rng.below(RECORD_WORDS), u32::MAX));
+        }
+        if rng.percent(25) {
+            pairs.push((needed, u32::MAX));
+        }
+        if probe.moves > 0 && rng.percent(50) {
+            let allowance = match rng.below(4) {
+                0 => probe.moves,
+                1 => probe.moves - 1,
+                _ => rng.below(probe.moves as usize) as u32,
+            };
+            pairs.push((needed + 4, allowance));
+        }
+        if rng.once_in(6) {
+            let less = rng.from_to(0, needed);
+            let allowance = rng.from_to(0, probe.moves as usize) as u32;
+            pairs.push((less, allowance));
+        }
+        for (tree, allowance) in pairs {
+            cases.push(Case::Parse {
+                image: subject.image.clone(),
+                text: text.clone(),
+                tree: tree.min(MOST_TREE) as u32,
+                // A parse that the probe could not finish is bounded as the probe was.
+                allowance: if probe.moves == PROBE {
+                    allowance.min(PROBE)
+                } else {
+                    allowance
+                },
+            });
+        }
+        if rng.percent(50) {
+            for _ in 0..rng.from_to(1, 3) {
+                let mut words = [0; 4];
+                if probe.records > 0 {
+                    let first = rng.below(probe.records as usize) * RECORD_WORDS;
+                    words.copy_from_slice(&tree[first..first + RECORD_WORDS]);
+                }
+                if rng.percent(50) {
+                    let i = rng.below(3);
+                    words[i] = match rng.below(4) {
+                        0 => *rng.pick(&[0, 1, 63, 64, 65_535]),
+                        1 => rng.from_to(0, text.len() + 2) as u16,
+                        2 => words[i].wrapping_add(1),
+                        _ => rng.number() as u16,
+                    };
+                }
+                if rng.once_in(6) {
+                    let start = rng.from_to(0, text.len());
+                    words = [rng.from_to(1, 63) as u16, start as u16, 0, words[3]];
+                }
+                cases.push(Case::Leaf {
+                    text: text.clone(),
+                    words,
+                });
+            }
+        }
+    }
+
+    /// The text of an image whose lines can be written, whatever its shape.
+    fn writable(image: &[u16]) -> Option<Vec<u8>> {
+        shape::front(image).ok()?;
+        let pack = Pack::new(image);
+        let lines = (0..pack.sizes.productions).all(|p| pack.len(p) <= PROD_SYMBOLS);
+        lines.then(|| text_of(&pack))
+    }
+
+    fn writes(&mut self, subject: &Subject, cases: &mut Vec<Case>) {
+        let length = Mix::writable(&subject.image).map_or(9, |text| text.len());
+        let rng = &mut self.rng;
+        let mut rooms = vec![length + rng.below(20)];
+        if rng.percent(40) {
+            rooms.push(match rng.below(3) {
+                0 => length - 1,
+                1 => rng.below(length),
+                _ => length,
+            });
+        }
+        if rng.once_in(10) {
+            rooms.push(0);
+        }
+        for room in rooms {
+            cases.push(Case::Write {
+                image: subject.image.clone(),
+                room: room.min(MOST_BYTES) as u32,
+            });
+        }
+    }
+
+    fn reads(&mut self, subject: &Subject, cases: &mut Vec<Case>) {
+        let Some(text) = Mix::writable(&subject.image) else {
+            return;
+        };
+        if text.len() > TEXT_LIMIT + 1 {
+            return;
+        }
+        let words = subject.image.len();
+        let text = Rc::new(text);
+        let rng = &mut self.rng;
+        let mut rooms = vec![words + rng.below(20)];
+        if rng.percent(40) {
+            rooms.push(match rng.below(3) {
+                0 => words - 1,
+                1 => rng.below(words),
+                _ => words,
+            });
+        }
+        for room in rooms {
+            cases.push(Case::Read {
+                text: text.clone(),
+                room: room.min(MOST_WORDS) as u32,
+            });
+        }
+        // A large text is broken once only.
+        let breaks = if text.len() > 3_000 { 1 } else { 4 };
+        for _ in 0..breaks {
+            let how = *self.rng.pick(&TextBreak::ALL);
+            *self.breaks.entry(how).or_default() += 1;
+            let mut broken = damage::text(&mut self.rng, &text, how);
+            broken.truncate(MOST_BYTES);
+            let room = words + self.rng.below(8);
+            cases.push(Case::Read {
+                text: Rc::new(broken),
+                room: room.min(MOST_WORDS) as u32,
+            });
+        }
+    }
+
+    /// Texts and queries about the limit of 65,535 bytes, and images of the greatest sizes.
+    fn long_bundle(&mut self) -> Vec<Case> {
+        let mut cases = Vec::new();
+        let passing = passing(&mut self.rng, Scale::Small, &mut self.drops);
+        let subject = Subject {
+            image: Rc::new(passing.tables.image()),
+            language: None,
+        };
+        for length in [TEXT_LIMIT, TEXT_LIMIT + 1 + self.rng.below(20)] {
+            if self.kinds.scan || self.kinds.parse {
+                let pack = Pack::new(&subject.image);
+                let likely = query::likely_bytes(&mut self.rng, &pack);
+                let byte = *self.rng.pick(&likely);
+                let mut text = vec![byte; length];
+                for _ in 0..self.rng.below(4) {
+                    let place = self.rng.below(length);
+                    text[place] = *self.rng.pick(&likely);
+                }
+                let text = Rc::new(text);
+                if self.kinds.scan {
+                    self.scans(&subject, &text, &mut cases);
+                }
+                if self.kinds.parse {
+                    self.parses(&subject, &text, &mut cases);
+                }
+            }
+            if self.kinds.text {
+                let image = Rc::new(wide::with_text_length(length));
+                let text = Rc::new(text_of(&Pack::new(&image)));
+                let room = self.rng.from_to(20_500, MOST_WORDS) as u32;
+                cases.push(Case::Read { text, room });
+                let room = self.rng.from_to(65_500, MOST_BYTES) as u32;
+                cases.push(Case::Write { image, room });
+            }
+        }
+        let sizes = wide::greatest_sizes();
+        let tables = random::tables(&mut self.rng, sizes);
+        let subject = Subject {
+            image: Rc::new(tables.image()),
+            language: None,
+        };
+        cases.extend(self.cases_of(&subject));
+        let passing = super::passing::passing(&mut self.rng, Scale::Greatest, &mut self.drops);
+        let subject = Subject {
+            image: Rc::new(passing.tables.image()),
+            language: Some(Rc::new(passing.language)),
+        };
+        cases.extend(self.cases_of(&subject));
+        cases
+    }
+
+    /// An image for each rule of the shape, broken there and nowhere else.
+    pub fn broken_rules(&mut self) -> Vec<Image> {
+        let mut images = Vec::new();
+        for rule in Rule::all() {
+            loop {
+                let sizes = random::sizes(&mut self.rng, false);
+                let good = random::tables(&mut self.rng, sizes).image();
+                let broken = damage::image_by_rule(&mut self.rng, &good, rule);
+                if let Some(image) = broken {
+                    if shape::pack(&image).is_err_and(|fault| fault.rule == rule) {
+                        images.push(Rc::new(image));
+                        break;
+                    }
+                }
+            }
+        }
+        images
+    }
+
+    /// A pack text broken in each of the ways.
+    pub fn broken_texts(&mut self, good: &[u8]) -> Vec<Text> {
+        TextBreak::ALL
+            .map(|how| {
+                *self.breaks.entry(how).or_default() += 1;
+                Rc::new(damage::text(&mut self.rng, good, how))
+            })
+            .to_vec()
+    }
+
+    /// Cases of one passing pack of the greatest sizes, for stored files.
+    pub fn greatest_bundle(&mut self) -> Vec<Case> {
+        let passing = passing(&mut self.rng, Scale::Greatest, &mut self.drops);
+        let subject = Subject {
+            image: Rc::new(passing.tables.image()),
+            language: Some(Rc::new(passing.language)),
+        };
+        self.cases_of(&subject)
+    }
+}
+
+/// Passing packs with queries, rooms and allowances, for the promise: packs from source 1, and changed ones that pass
+/// all the same.
+pub struct Promised {
+    rng: Rng,
+    pub drops: Drops,
+}
+
+pub struct PromisedParse {
+    pub text: Vec<u8>,
+    pub tree: usize,
+    pub allowance: u32,
+}
+
+impl Promised {
+    pub fn new(seed: u64) -> Promised {
+        Promised {
+            rng: Rng::new(seed),
+            drops: Drops::default(),
+        }
+    }
+
+    /// A passing image and parses to make with it.
+    pub fn pack_and_parses(&mut self) -> (Vec<u16>, Vec<PromisedParse>) {
+        let scale = match self.rng.below(100) {
+            0..=29 => Scale::Tiny,
+            30..=79 => Scale::Small,
+            80..=94 => Scale::Middle,
+            95..=98 => Scale::Large,
+            _ => Scale::Greatest,
+        };
+        let made = passing(&mut self.rng, scale, &mut self.drops);
+        let mut image = made.tables.image();
+        if self.rng.percent(50) {
+            // Changes that keep it passing.
+            let mut tables = made.tables.clone();
+            for _ in 0..30 {
+                let mut changed = tables.clone();
+                random::change(&mut self.rng, &mut changed);
+                let words = changed.image();
+                if crate::check::check(&words).code == DONE {
+                    tables = changed;
+                    image = words;
+                }
+            }
+        }
+        let pack = Pack::new(&image);
+        let likely = query::likely_bytes(&mut self.rng, &pack);
+        let parses = (0..40)
+            .map(|_| {
+                let rng = &mut self.rng;
+                let text = if rng.percent(80) {
+                    query::derived(rng, &made.language, &likely)
+                } else {
+                    query::random(rng, &likely, 40)
+                };
+                let tree = match rng.below(5) {
+                    0 => rng.from_to(0, 40),
+                    _ => 40_000,
+                };
+                let allowance = match rng.below(5) {
+                    0 => rng.from_to(0, 100) as u32,
+                    _ => PROBE,
+                };
+                PromisedParse {
+                    text,
+                    tree,
+                    allowance,
+                }
+            })
+            .collect();
+        (image, parses)
+    }
+}

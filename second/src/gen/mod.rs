@@ -1,0 +1,16 @@
+//! The generator: packs, pack texts and queries from a seed, from three sources. `passing` builds packs that pass,
+//! `random` images of good shape that are otherwise random, and `damage` breaks images, texts and queries. `mix`
+//! makes cases of them.
+
+pub mod damage;
+pub mod grammar;
+pub mod lr;
+pub mod mix;
+pub mod passing;
+pub mod pattern;
+pub mod query;
+pub mod random;
+pub mod rng;
+pub mod scanner;
+pub mod tables;
+pub mod wide;

@@ -1,0 +1,267 @@
+//! How often each code of each entry point, each rule of the shape, each line of the form and each condition is hit.
+
+use std::collections::BTreeMap;
+
+use crate::cases::{Case, CaseReader, MOST_TREE, MOST_WORDS};
+use crate::check::check;
+use crate::gen::damage::TextBreak;
+use crate::gen::mix::{Kinds, Mix};
+use crate::image::{Action, Pack, SIZE_NAMES};
+use crate::leaf;
+use crate::numbers::*;
+use crate::parse::parse;
+use crate::scan::{scan, Meter, Scanner};
+use crate::sets;
+use crate::shape::{self, Rule};
+use crate::text::{read, words_of, write, Line};
+
+/// Counts by name, with a name for everything that has to be hit.
+pub struct Hits {
+    pub counts: BTreeMap<String, usize>,
+    pub cases: usize,
+    pub drops: BTreeMap<&'static str, usize>,
+}
+
+fn rule_name(rule: Rule) -> String {
+    match rule {
+        Rule::SizeInRange(i) => format!("shape rule SizeInRange {}", SIZE_NAMES[i]),
+        rule => format!("shape rule {rule:?}"),
+    }
+}
+
+/// The ways in which an action of a parse is refused.
+const REFUSED_ACTIONS: [&str; 7] = [
+    "parse code 10: too few states",
+    "parse code 10: no goto",
+    "parse code 10: accept, not two states",
+    "parse code 11: shift",
+    "parse code 11: reduce",
+    "parse code 12: shift",
+    "parse code 12: reduce",
+];
+
+/// The ways in which a terminal is unexpected.
+const UNEXPECTED_WAYS: [&str; 3] = [
+    "parse code 8: at the end",
+    "parse code 8: at a token",
+    "parse code 8: at a token, several without a group",
+];
+
+/// Everything that has to be hit.
+pub fn wanted() -> Vec<String> {
+    let mut names: Vec<String> = Vec::new();
+    names.extend([0, 4].map(|code| format!("shape code {code}")));
+    names.extend(Rule::all().into_iter().map(rule_name));
+    names.extend(["match", "no match"].map(|what| format!("scan code 0: {what}")));
+    names.extend([4, 6, 13].map(|code| format!("scan code {code}")));
+    names.extend([0, 1, 2, 3, 4].map(|code| format!("read code {code}")));
+    names.extend(Line::ALL.map(|line| format!("read code 1: line {}", line.name())));
+    names.extend(TextBreak::ALL.map(|how| format!("text break {how:?}")));
+    names.extend([0, 2, 3, 4].map(|code| format!("write code {code}")));
+    names.extend([0, 4, 5].map(|code| format!("check code {code}")));
+    names.extend((1..=6).map(|condition| format!("check code 5: K{condition}")));
+    names.extend([0, 4, 6, 7].map(|code| format!("parse code {code}")));
+    names.extend(UNEXPECTED_WAYS.map(str::to_string));
+    names.extend([9, 10, 11, 12, 13].map(|code| format!("parse code {code}")));
+    names.extend(REFUSED_ACTIONS.map(str::to_string));
+    names.extend(
+        ["a part", "an empty part inside", "the empty front part"]
+            .map(|part| format!("leaf: {part}")),
+    );
+    names
+}
+
+impl Hits {
+    fn new() -> Hits {
+        Hits {
+            counts: wanted().into_iter().map(|name| (name, 0)).collect(),
+            cases: 0,
+            drops: BTreeMap::new(),
+        }
+    }
+
+    fn hit(&mut self, name: impl Into<String>) {
+        *self.counts.entry(name.into()).or_default() += 1;
+    }
+
+    /// The names that have to be hit and never were.
+    pub fn missed(&self) -> Vec<String> {
+        wanted()
+            .into_iter()
+            .filter(|name| self.counts[name] == 0)
+            .collect()
+    }
+
+    fn count(&mut self, case: &Case) {
+        self.cases += 1;
+        match case {
+            Case::Shape { image } => match shape::pack(image) {
+                Ok(_) => self.hit("shape code 0"),
+                Err(fault) => {
+                    self.hit("shape code 4");
+                    self.hit(rule_name(fault.rule));
+                }
+            },
+            Case::Scan {
+                image,
+                text,
+                start,
+                set,
+                allowance,
+            } => {
+                let scanned = scan(image, text, *start as usize, *set, *allowance);
+                match (scanned.code, scanned.set) {
+                    (DONE, sets::EMPTY) => self.hit("scan code 0: no match"),
+                    (DONE, _) => self.hit("scan code 0: match"),
+                    (code, _) => self.hit(format!("scan code {code}")),
+                }
+            }
+            Case::Read { text, room } => {
+                let mut lent = [0; MOST_WORDS];
+                let code = read(text, &mut lent[..*room as usize]).code;
+                self.hit(format!("read code {code}"));
+                if code == TEXT_FORM {
+                    if let Err(malformed) = words_of(text) {
+                        self.hit(format!("read code 1: line {}", malformed.line.name()));
+                    }
+                }
+            }
+            Case::Write { image, room } => {
+                let mut lent = vec![0; *room as usize];
+                let code = write(image, &mut lent).code;
+                self.hit(format!("write code {code}"));
+            }
+            Case::Check { image } => {
+                let checked = check(image);
+                self.hit(format!("check code {}", checked.code));
+                if checked.code == CHECK {
+                    self.hit(format!("check code 5: K{}", checked.numbers[0]));
+                }
+            }
+            Case::Parse {
+                image,
+                text,
+                tree,
+                allowance,
+            } => {
+                let mut lent = [0; MOST_TREE];
+                let parsed = parse(image, text, &mut lent[..*tree as usize], *allowance);
+                match parsed.code {
+                    UNEXPECTED => {
+                        let rest = &text[parsed.place as usize..];
+                        self.hit(UNEXPECTED_WAYS[unexpected(image, rest)]);
+                    }
+                    code => self.hit(format!("parse code {code}")),
+                }
+                if (STUCK..=STACK_FULL).contains(&parsed.code) {
+                    let records = &lent[..parsed.records as usize * RECORD_WORDS];
+                    let rest = &text[parsed.place as usize..];
+                    self.hit(refused_action(image, rest, records, parsed.code));
+                }
+            }
+            Case::Leaf { text, words } => {
+                let (start, length) = leaf::part(text, *words);
+                match (start, length) {
+                    (0, 0) => self.hit("leaf: the empty front part"),
+                    (_, 0) => self.hit("leaf: an empty part inside"),
+                    _ => self.hit("leaf: a part"),
+                }
+            }
+        }
+    }
+}
+
+/// The way in which a terminal is unexpected: the second scan is made again.
+fn unexpected(image: &[u16], rest: &[u8]) -> usize {
+    let pack = Pack::new(image);
+    let others = sets::below(pack.sizes.terminals) & !sets::single(0) & !pack.layout();
+    match Scanner::new(pack).scan(rest, others, &mut Meter::new(u32::MAX)) {
+        _ if rest.is_empty() => 0,
+        Ok(Some(found)) if sets::count(found.set) > 1 && pack.chosen_of(found.set).is_none() => 2,
+        _ => 1,
+    }
+}
+
+/// Names the action that ended a parse with code 10, 11 or 12: the stack is built again from the records.
+fn refused_action(image: &[u16], rest: &[u8], records: &[u16], code: u32) -> String {
+    let pack = Pack::new(image);
+    let mut stack = vec![0];
+    for record in records.chunks_exact(RECORD_WORDS) {
+        let [first, _, len, state] = [record[0], record[1], record[2], record[3]].map(usize::from);
+        let next = if first < 64 {
+            match pack.action(state, first) {
+                Action::Shift(to) => Some(to),
+                _ => None,
+            }
+        } else {
+            stack.truncate(stack.len() - len);
+            pack.goto(state, first - 64)
+        };
+        stack.extend(next);
+    }
+    let top = stack[stack.len() - 1];
+    let valid = pack.valid_set(top) & !sets::single(0);
+    let terminal = if rest.is_empty() {
+        0
+    } else {
+        let found = Scanner::new(pack).scan(rest, valid, &mut Meter::new(u32::MAX));
+        let set = found.ok().flatten().map_or(sets::EMPTY, |found| found.set);
+        pack.chosen_of(set).or(sets::lowest(set)).unwrap_or(0)
+    };
+    let what = match (code, pack.action(top, terminal)) {
+        (STUCK, Action::Accept) => "accept, not two states",
+        (STUCK, Action::Reduce(p)) if stack.len() < pack.len(p) + 1 => "too few states",
+        (STUCK, Action::Reduce(_)) => "no goto",
+        (_, Action::Shift(_)) => "shift",
+        (_, Action::Reduce(_)) => "reduce",
+        _ => "no such action",
+    };
+    format!("parse code {code}: {what}")
+}
+
+/// Counts the hits of a case file. The ways to break a text are not seen in it.
+pub fn of_file(file: &[u8]) -> Result<BTreeMap<String, usize>, String> {
+    let mut hits = Hits::new();
+    for case in CaseReader::new(file) {
+        hits.count(&case?);
+    }
+    hits.counts
+        .retain(|name, _| !name.starts_with("text break"));
+    Ok(hits.counts)
+}
+
+/// Counts the hits of at least `cases` generated cases.
+pub fn run(cases: usize, seed: u64) -> Hits {
+    let mut mix = Mix::new(seed, Kinds::ALL, false);
+    let mut hits = Hits::new();
+    while hits.cases < cases {
+        for case in mix.bundle() {
+            if hits.cases < cases {
+                hits.count(&case);
+            }
+        }
+    }
+    for (how, count) in &mix.breaks {
+        hits.counts.insert(format!("text break {how:?}"), *count);
+    }
+    hits.drops = mix.drops.reasons;
+    hits
+}
+
+/// The table as lines: everything wanted in its order, then what else was seen, then the drops of source 1.
+pub fn table(hits: &Hits) -> String {
+    let mut lines = format!("cases: {}\n", hits.cases);
+    let wanted = wanted();
+    for name in &wanted {
+        lines.push_str(&format!("{:7}  {name}\n", hits.counts[name]));
+    }
+    for (name, count) in &hits.counts {
+        if !wanted.contains(name) {
+            lines.push_str(&format!("{count:7}  {name} (not expected)\n"));
+        }
+    }
+    for (reason, count) in &hits.drops {
+        lines.push_str(&format!("{count:7}  dropped: {reason}\n"));
+    }
+    lines
+}

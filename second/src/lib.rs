@@ -1,0 +1,35 @@
+//! The second program: an independent reading of document 01 in plain Rust, and an independent generator of packs
+//! and queries. The library's modules follow the document's sections; `cases`, `engine`, `hits`, `promise` and
+//! `gen` use it to compare answers.
+
+pub mod check;
+pub mod image;
+pub mod leaf;
+pub mod numbers;
+pub mod parse;
+pub mod readq;
+pub mod scan;
+pub mod sets;
+pub mod shape;
+pub mod text;
+
+pub mod cases;
+pub mod compare;
+pub mod engine;
+pub mod gen;
+pub mod hits;
+pub mod marked;
+pub mod promise;
+pub mod store;
+pub mod wrong;
+
+/// A module whose file is there only where the feature is used. (A plain `mod` line would make the formatter ask
+/// for the file even without the feature.)
+macro_rules! module_of_feature {
+    ($feature:literal, $module:item) => {
+        #[cfg(feature = $feature)]
+        $module
+    };
+}
+
+module_of_feature!("proved", pub mod proved;);

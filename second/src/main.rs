@@ -1,0 +1,127 @@
+//! The commands of the second program.
+
+use std::fs;
+use std::io::{self, Read, Write};
+use std::process::ExitCode;
+
+use second::cases::answers;
+use second::compare::{compare, describe};
+use second::engine::{others, Engine, Second};
+use second::hits;
+use second::promise;
+use second::readq::readq;
+use second::store::{store, File};
+
+const USAGE: &str = "\
+usage: second write-cases SEED scan|text|parse CASES_OUT ANSWERS_OUT
+       second answer CASES_IN ANSWERS_OUT
+       second hits N SEED
+       second promise N SEED
+       second readq PACKTEXT_FILE
+       second compare N SEED [ENGINE]";
+
+fn number(word: &str) -> Result<u64, String> {
+    word.parse().map_err(|_| format!("{word} is no number"))
+}
+
+fn count(word: &str) -> Result<usize, String> {
+    word.parse().map_err(|_| format!("{word} is no count"))
+}
+
+fn put(name: &str, bytes: &[u8]) -> Result<(), String> {
+    fs::write(name, bytes).map_err(|wrong| format!("{name}: {wrong}"))
+}
+
+fn write_cases(seed: u64, kind: &str, cases: &str, answers: &str) -> Result<(), String> {
+    let file = File::by_name(kind).ok_or_else(|| format!("{kind} is no kind of case file"))?;
+    let (bytes, lines) = store(file, seed)?;
+    put(cases, &bytes)?;
+    put(answers, lines.as_bytes())?;
+    println!("{} cases, {} bytes", lines.lines().count(), bytes.len());
+    Ok(())
+}
+
+fn answer_file(cases: &str, answers_out: &str) -> Result<(), String> {
+    let bytes = fs::read(cases).map_err(|wrong| format!("{cases}: {wrong}"))?;
+    let lines = answers(&Second, &bytes)?;
+    put(answers_out, lines.as_bytes())?;
+    println!("{} cases", lines.lines().count());
+    Ok(())
+}
+
+fn show_hits(cases: usize, seed: u64) -> Result<(), String> {
+    let hits = hits::run(cases, seed);
+    print!("{}", hits::table(&hits));
+    let missed = hits.missed();
+    if missed.is_empty() {
+        Ok(())
+    } else {
+        Err(format!("never hit: {}", missed.join(", ")))
+    }
+}
+
+fn show_promise(parses: usize, seed: u64) -> Result<(), String> {
+    let counts = promise::run(parses, seed)?;
+    print!("{}", promise::table(&counts));
+    println!("no violation");
+    Ok(())
+}
+
+/// A pack text that is not named or not opened is empty.
+fn show_readq(name: Option<&str>) -> Result<(), String> {
+    let pack_text = name
+        .and_then(|name| fs::read(name).ok())
+        .unwrap_or_default();
+    let mut query = Vec::new();
+    let wrong = |wrong: io::Error| wrong.to_string();
+    io::stdin().read_to_end(&mut query).map_err(wrong)?;
+    let lines = readq(&pack_text, &query);
+    io::stdout().write_all(lines.as_bytes()).map_err(wrong)
+}
+
+fn show_compare(cases: usize, seed: u64, name: &str) -> Result<(), String> {
+    let engines = others();
+    let names: Vec<&str> = engines.iter().map(|engine| engine.name()).collect();
+    let found = engines.iter().find(|engine| engine.name() == name);
+    let other = found.ok_or_else(|| {
+        let names = names.join(", ");
+        format!("there is no engine {name} in this build; there are: {names}")
+    })?;
+    let comparison = compare(&Second, other.as_ref(), cases, seed);
+    println!(
+        "{} cases, {} compared with {name}",
+        comparison.cases, comparison.compared
+    );
+    match &comparison.difference {
+        Some(difference) => Err(describe(difference, [Second.name(), name])),
+        None if comparison.compared == 0 => Err("nothing was compared".to_string()),
+        None => Ok(()),
+    }
+}
+
+fn run(words: &[&str]) -> Result<(), String> {
+    match *words {
+        ["write-cases", seed, kind, cases, answers] => {
+            write_cases(number(seed)?, kind, cases, answers)
+        }
+        ["answer", cases, answers] => answer_file(cases, answers),
+        ["hits", cases, seed] => show_hits(count(cases)?, number(seed)?),
+        ["promise", parses, seed] => show_promise(count(parses)?, number(seed)?),
+        ["readq", ref names @ ..] => show_readq(names.first().copied()),
+        ["compare", cases, seed] => show_compare(count(cases)?, number(seed)?, "proved"),
+        ["compare", cases, seed, name] => show_compare(count(cases)?, number(seed)?, name),
+        _ => Err(USAGE.to_string()),
+    }
+}
+
+fn main() -> ExitCode {
+    let words: Vec<String> = std::env::args().skip(1).collect();
+    let words: Vec<&str> = words.iter().map(String::as_str).collect();
+    match run(&words) {
+        Ok(()) => ExitCode::SUCCESS,
+        Err(wrong) => {
+            eprintln!("{}", wrong.trim_end());
+            ExitCode::FAILURE
+        }
+    }
+}

@@ -1,0 +1,384 @@
+//! The stored case files: the cases that are written down first, then those about the limits, then generated ones up
+//! to the size of a file.
+
+use std::rc::Rc;
+
+use crate::cases::{answers, Case, CaseWriter, Image, Text};
+use crate::engine::Second;
+use crate::gen::mix::{Kinds, Mix};
+use crate::gen::wide::with_text_length;
+use crate::image::Pack;
+use crate::marked::*;
+use crate::numbers::TEXT_LIMIT;
+use crate::sets::Set;
+use crate::text::text_of;
+
+/// About how large a case file becomes.
+const FILE_BYTES: usize = 445_000;
+
+/// The three files.
+#[derive(Clone, Copy, Debug, PartialEq, Eq)]
+pub enum File {
+    /// Shape, and the scan called by itself.
+    Scan,
+    /// Reader and writer.
+    Text,
+    /// Check, parse and leaf.
+    Parse,
+}
+
+impl File {
+    pub fn by_name(name: &str) -> Option<File> {
+        match name {
+            "scan" => Some(File::Scan),
+            "text" => Some(File::Text),
+            "parse" => Some(File::Parse),
+            _ => None,
+        }
+    }
+}
+
+/// A case file and its answers.
+pub fn store(file: File, seed: u64) -> Result<(Vec<u8>, String), String> {
+    let kinds = Kinds {
+        scan: file == File::Scan,
+        text: file == File::Text,
+        parse: file == File::Parse,
+    };
+    let mut mix = Mix::new(seed, kinds, true);
+    let mut writer = CaseWriter::new();
+    let first = match file {
+        File::Scan => scan_cases(&mut mix),
+        File::Text => text_cases(&mut mix),
+        File::Parse => parse_cases(&mut mix),
+    };
+    first.iter().for_each(|case| writer.put(case));
+    while writer.bytes.len() < FILE_BYTES {
+        mix.bundle().iter().for_each(|case| writer.put(case));
+    }
+    let lines = answers(&Second, &writer.bytes)?;
+    Ok((writer.bytes, lines))
+}
+
+fn text(bytes: &[u8]) -> Text {
+    Rc::new(bytes.to_vec())
+}
+
+fn scans(image: &Image, texts: &[&[u8]], sets: &[Set], cases: &mut Vec<Case>) {
+    for bytes in texts {
+        let text = text(bytes);
+        for &set in sets {
+            for allowance in [u32::MAX, 3] {
+                cases.push(Case::Scan {
+                    image: image.clone(),
+                    text: text.clone(),
+                    start: 0,
+                    set,
+                    allowance,
+                });
+            }
+        }
+    }
+}
+
+fn scan_cases(mix: &mut Mix) -> Vec<Case> {
+    let mut cases = Vec::new();
+    // Source document 000, section 5.2.4: `form*` with the valid set {i, k2} is the very first scan.
+    let form: Image = Rc::new(image_of(FORM_PACK));
+    cases.push(Case::Shape {
+        image: form.clone(),
+    });
+    scans(&form, &[b"form*"], &[0xa], &mut cases);
+    scans(
+        &form,
+        &[
+            b"form*", b"form", b"for*", b"for", b"fo*", b"fort", b"forms", b"*", b"",
+        ],
+        &[0x2, 0x4, 0x8, 0x6, 0xa, 0xc, 0xe],
+        &mut cases,
+    );
+    // Source document 000, section 5.2.2: `keyword` with the valid set {i}.
+    let keyword: Image = Rc::new(image_of(KEYWORD_PACK));
+    cases.push(Case::Shape {
+        image: keyword.clone(),
+    });
+    scans(
+        &keyword,
+        &[
+            b"keyword",
+            b"keyword ",
+            b"keywords",
+            b"keywor",
+            b"Keyword",
+            b"k",
+        ],
+        &[0x4, 0x2, 0x6],
+        &mut cases,
+    );
+    // The scans that the marked cases are made of: each text at each place with the sets of the small pack's rows, with
+    // layout, and with all but layout.
+    let mut images: Vec<Image> = Vec::new();
+    for marked in marked_parses() {
+        let known = images.iter().find(|image| ***image == marked.image);
+        let image = known.cloned().unwrap_or(Rc::new(marked.image));
+        if !images.contains(&image) {
+            images.push(image.clone());
+            cases.push(Case::Shape {
+                image: image.clone(),
+            });
+        }
+        for start in 0..=marked.query.len() as u32 {
+            for set in [0x4, 0x2, 0x8, 0x6, 0xf] {
+                cases.push(Case::Scan {
+                    image: image.clone(),
+                    text: text(marked.query.as_bytes()),
+                    start,
+                    set,
+                    allowance: marked.allowance,
+                });
+            }
+        }
+    }
+    // Queries of 65,535 and 65,536 bytes.
+    let small: Image = Rc::new(small_image());
+    for length in [TEXT_LIMIT, TEXT_LIMIT + 1] {
+        let text = Rc::new(vec![b'a'; length]);
+        for (start, set, allowance) in [
+            (0, 4, u32::MAX),
+            (0, 4, 65_535),
+            (0, 4, 65_534),
+            (1, 4, 65_534),
+            (65_534, 4, 1),
+            (65_535, 4, 1),
+            (65_536, Set::MAX, 0),
+            (u32::MAX, Set::MAX, 0),
+            (0, 8, 9),
+        ] {
+            cases.push(Case::Scan {
+                image: small.clone(),
+                text: text.clone(),
+                start,
+                set,
+                allowance,
+            });
+        }
+    }
+    // Each rule of the shape broken, with one scan that is refused by it.
+    for image in mix.broken_rules() {
+        cases.push(Case::Shape {
+            image: image.clone(),
+        });
+        scans(&image, &[b"a"], &[Set::MAX], &mut cases);
+    }
+    cases.extend(mix.greatest_bundle());
+    cases
+}
+
+fn text_cases(mix: &mut Mix) -> Vec<Case> {
+    let mut cases = Vec::new();
+    for pack_text in [SMALL_PACK, FORM_PACK, KEYWORD_PACK, LEAST_PACK] {
+        let image: Image = Rc::new(image_of(pack_text));
+        let text = text(pack_text.as_bytes());
+        let (words, bytes) = (image.len() as u32, text.len() as u32);
+        for room in [words, words + 9, words - 1, 0] {
+            cases.push(Case::Read {
+                text: text.clone(),
+                room,
+            });
+        }
+        for room in [bytes, bytes + 9, bytes - 1, 0] {
+            cases.push(Case::Write {
+                image: image.clone(),
+                room,
+            });
+        }
+    }
+    // The small pack's text cut at each line's start and end.
+    for (place, _) in SMALL_PACK.match_indices('\n') {
+        for cut in [place, place + 1] {
+            cases.push(Case::Read {
+                text: text(&SMALL_PACK.as_bytes()[..cut]),
+                room: 200,
+            });
+        }
+    }
+    // Pack texts of 65,535 and 65,536 bytes.
+    for length in [TEXT_LIMIT, TEXT_LIMIT + 1] {
+        let image: Image = Rc::new(with_text_length(length));
+        for room in [65_600, 65_535, 65_534, 0] {
+            cases.push(Case::Write {
+                image: image.clone(),
+                room,
+            });
+        }
+        let text: Text = Rc::new(text_of(&Pack::new(&image)));
+        for room in [20_700, 20_589, 20_588, 0] {
+            cases.push(Case::Read {
+                text: text.clone(),
+                room,
+            });
+        }
+    }
+    // The small pack's text broken in each of the ways.
+    for text in mix.broken_texts(SMALL_PACK.as_bytes()) {
+        cases.push(Case::Read { text, room: 200 });
+    }
+    cases
+}
+
+fn parse_cases(mix: &mut Mix) -> Vec<Case> {
+    let mut cases = Vec::new();
+    for marked in marked_parses() {
+        cases.push(Case::Parse {
+            image: Rc::new(marked.image),
+            text: text(marked.query.as_bytes()),
+            tree: 4 * marked.room as u32,
+            allowance: marked.allowance,
+        });
+    }
+    for (_, image, _) in marked_checks() {
+        cases.push(Case::Check {
+            image: Rc::new(image),
+        });
+    }
+    let small: Image = Rc::new(small_image());
+    let (query, _, records) = TAX_BY_DAY;
+    let day = text(query.as_bytes());
+    for tree in [40_000, 16, 15, 12, 0] {
+        cases.push(Case::Parse {
+            image: small.clone(),
+            text: day.clone(),
+            tree,
+            allowance: u32::MAX,
+        });
+    }
+    for allowance in 0..14 {
+        cases.push(Case::Parse {
+            image: small.clone(),
+            text: day.clone(),
+            tree: 16,
+            allowance,
+        });
+    }
+    for words in records {
+        cases.push(Case::Leaf {
+            text: day.clone(),
+            words,
+        });
+    }
+    for words in [
+        [1, 10, 0, 0],
+        [63, 9, 1, 65_535],
+        [1, 9, 2, 0],
+        [1, 11, 0, 0],
+        [0, 1, 1, 0],
+        [64, 1, 1, 0],
+        [1, 65_535, 65_535, 0],
+    ] {
+        cases.push(Case::Leaf {
+            text: day.clone(),
+            words,
+        });
+    }
+    // The examples of source document 000: a keyword where a name is due is code 8, and not a shorter name. Then the
+    // least pack, and one with a group.
+    for (pack_text, queries) in [
+        (FORM_PACK, &["form", "for", "fort", "forms", "fo"][..]),
+        (KEYWORD_PACK, &["keyword", "keywords", "keywor"][..]),
+        (LEAST_PACK, &["", "a"][..]),
+        (GROUP_PACK, &["ab", "aa", "a", "b"][..]),
+    ] {
+        let image: Image = Rc::new(image_of(pack_text));
+        cases.push(Case::Check {
+            image: image.clone(),
+        });
+        for query in queries {
+            cases.push(Case::Parse {
+                image: image.clone(),
+                text: text(query.as_bytes()),
+                tree: 40,
+                allowance: u32::MAX,
+            });
+        }
+    }
+    // Without an equal group, and with the other terminal chosen.
+    for group in ["group=000000000000000e,2", "group=0000000000000006,1"] {
+        let image: Image = Rc::new(image_with(GROUP_PACK, &[("group=", 0, group)]));
+        cases.push(Case::Check {
+            image: image.clone(),
+        });
+        for query in ["ab", "a"] {
+            cases.push(Case::Parse {
+                image: image.clone(),
+                text: text(query.as_bytes()),
+                tree: 40,
+                allowance: u32::MAX,
+            });
+        }
+    }
+    // The small pack with an accept in each row.
+    for (row, accept) in [
+        (0, "act=1,0,4,0"),
+        (1, "act=1,6,0,0"),
+        (2, "act=1,0,8,0"),
+        (3, "act=1,0,0,0"),
+    ] {
+        let image: Image = Rc::new(image_with(SMALL_PACK, &[("act=", row, accept)]));
+        cases.push(Case::Check {
+            image: image.clone(),
+        });
+        for query in ["", "tax", "tax by ", "tax by day"] {
+            cases.push(Case::Parse {
+                image: image.clone(),
+                text: text(query.as_bytes()),
+                tree: 40,
+                allowance: u32::MAX,
+            });
+        }
+    }
+    // The stack of 512 states about to be full: by a shift, by the empty production, with and without its goto, and by
+    // a production of one symbol, which makes room for itself.
+    for replaced in [
+        &[][..],
+        &[("goto=", 1, "goto=0")],
+        &[("act=", 1, "act=5,4")],
+    ] {
+        let image: Image = Rc::new(image_with(DEEP_PACK, replaced));
+        for length in [511, 512] {
+            let text = Rc::new(vec![b'a'; length]);
+            for records in [510, 511, 512, 600] {
+                cases.push(Case::Parse {
+                    image: image.clone(),
+                    text: text.clone(),
+                    tree: 4 * records,
+                    allowance: u32::MAX,
+                });
+            }
+        }
+    }
+    // Queries of 65,535 and 65,536 bytes.
+    for length in [TEXT_LIMIT, TEXT_LIMIT + 1] {
+        let text = Rc::new(vec![b'a'; length]);
+        for (tree, allowance) in [(40, u32::MAX), (40, 65_536), (40, 65_535), (0, 65_536)] {
+            cases.push(Case::Parse {
+                image: small.clone(),
+                text: text.clone(),
+                tree,
+                allowance,
+            });
+        }
+        for words in [
+            [2, 0, 65_535, 0],
+            [2, 65_535, 0, 0],
+            [2, 65_535, 1, 0],
+            [2, 65_535, 2, 0],
+        ] {
+            cases.push(Case::Leaf {
+                text: text.clone(),
+                words,
+            });
+        }
+    }
+    cases.extend(mix.greatest_bundle());
+    cases
+}

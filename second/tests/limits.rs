@@ -1,0 +1,352 @@
+//! The limits: texts of 65,535 and 65,536 bytes, tree rooms, allowances, and the stack of 512 states.
+
+use second::cases::{byte_pattern, word_pattern};
+use second::check::check;
+use second::gen::tables::{nonterminal, Production, ScanSets, Tables};
+use second::gen::wide::with_text_length;
+use second::image::{Action, Pack, Range, Sizes};
+use second::leaf::{leaf, part};
+use second::marked::{image_of, small_image, LEAST_PACK};
+use second::parse::{parse, Parsed};
+use second::scan::{scan, Scanned};
+use second::shape::shape;
+use second::text::{read, text_of, write, Written};
+
+const SHIFT_1: u16 = 4;
+const REDUCE_0: u16 = 3;
+const REDUCE_1: u16 = 5;
+
+/// Terminal 1 is `a`; state 0 and state 1 shift it to state 1; nothing else.
+fn letters(states: usize, productions: usize) -> Tables {
+    let words = [2, 1, productions as u16, states as u16, 2, 2, 1, 0];
+    let mut tables = Tables::blank(Sizes::from_words(&words));
+    tables.ranges[0] = Range {
+        lo: 97,
+        hi: 97,
+        class: 1,
+    };
+    tables.moves[0][1] = 2;
+    tables.scan[0].poss = 2;
+    tables.scan[1] = ScanSets {
+        acc: 2,
+        rej: 0,
+        poss: 2,
+    };
+    tables.act[0][1] = SHIFT_1;
+    tables.act[1][1] = SHIFT_1;
+    tables
+}
+
+/// Parses with room for so many records; the rest of the tree stays untouched.
+fn parsed(tables: &Tables, text: &[u8], room: usize) -> Parsed {
+    let mut tree = word_pattern(4 * room as u32 + 3);
+    let before = tree.clone();
+    let parsed = parse(&tables.image(), text, &mut tree, u32::MAX);
+    let written = 4 * parsed.records as usize;
+    assert!(tree[written..] == before[written..], "rest of the tree");
+    parsed
+}
+
+fn brief(parsed: Parsed) -> (u32, u32, u32) {
+    assert_eq!((parsed.length, parsed.terminal), (0, 0));
+    (parsed.code, parsed.place, parsed.records)
+}
+
+#[test]
+fn the_stack_of_512_is_reached_by_shift() {
+    let tables = letters(2, 1);
+    let a = vec![b'a'; 600];
+    // 511 shifts fit; then the end of the text is not valid: code 8.
+    assert_eq!(brief(parsed(&tables, &a[..511], 600)), (8, 511, 511));
+    assert_eq!(brief(parsed(&tables, &a[..512], 600)), (12, 511, 511));
+    assert_eq!(brief(parsed(&tables, &a, 600)), (12, 511, 511));
+    // Tree room and stack used up by one shift: 11 comes first.
+    assert_eq!(brief(parsed(&tables, &a, 511)), (11, 511, 511));
+    assert_eq!(brief(parsed(&tables, &a, 510)), (11, 510, 510));
+}
+
+#[test]
+fn the_stack_of_512_is_reached_by_an_empty_production() {
+    // State 0 reduces by the empty production and goes to state 1, which does so again.
+    let mut tables = letters(2, 1);
+    tables.act = vec![vec![REDUCE_0, 0]; 2];
+    tables.goto = vec![vec![2], vec![2]];
+    assert_eq!(brief(parsed(&tables, b"", 600)), (12, 0, 511));
+    assert_eq!(brief(parsed(&tables, b"", 512)), (12, 0, 511));
+    assert_eq!(brief(parsed(&tables, b"", 511)), (11, 0, 511));
+    // Without a goto in state 1 the second reduction is stuck, whatever the room.
+    tables.goto[1][0] = 0;
+    assert_eq!(brief(parsed(&tables, b"", 600)), (10, 0, 1));
+    assert_eq!(brief(parsed(&tables, b"", 1)), (10, 0, 1));
+}
+
+#[test]
+fn at_a_full_stack_stuck_comes_first_then_room_then_stack() {
+    let a = vec![b'a'; 511];
+    // At the end of the text the stack is full and state 1 reduces by the empty production.
+    let mut tables = letters(3, 1);
+    tables.act[1][0] = REDUCE_0;
+    assert_eq!(brief(parsed(&tables, &a, 511)), (10, 511, 511));
+    assert_eq!(brief(parsed(&tables, &a, 600)), (10, 511, 511));
+    tables.goto[1][0] = 3;
+    assert_eq!(brief(parsed(&tables, &a, 511)), (11, 511, 511));
+    assert_eq!(brief(parsed(&tables, &a, 512)), (12, 511, 511));
+    // One symbol dropped makes room for the push: state 2 then refuses the end of the text.
+    tables.productions[0].symbols = vec![1];
+    assert_eq!(brief(parsed(&tables, &a, 511)), (11, 511, 511));
+    assert_eq!(brief(parsed(&tables, &a, 512)), (8, 511, 512));
+}
+
+/// `a` becomes S by production 0, and S becomes S by production 1 for ever.
+fn endless() -> Tables {
+    let mut tables = letters(3, 2);
+    tables.productions = vec![
+        Production {
+            lhs: 0,
+            symbols: vec![1],
+        },
+        Production {
+            lhs: 0,
+            symbols: vec![nonterminal(0)],
+        },
+    ];
+    tables.act = vec![vec![0, SHIFT_1], vec![REDUCE_0, 0], vec![REDUCE_1, 0]];
+    tables.goto[0][0] = 3;
+    tables
+}
+
+#[test]
+fn tree_rooms_of_0_1_and_65_535_records() {
+    let tables = endless();
+    assert_eq!(check(&tables.image()).code, 0);
+    assert_eq!(brief(parsed(&tables, b"a", 0)), (11, 0, 0));
+    assert_eq!(brief(parsed(&tables, b"a", 1)), (11, 1, 1));
+    assert_eq!(brief(parsed(&tables, b"a", 65_534)), (11, 1, 65_534));
+    assert_eq!(brief(parsed(&tables, b"a", 65_535)), (11, 1, 65_535));
+    // A larger tree counts as 65,535 records.
+    assert_eq!(brief(parsed(&tables, b"a", 65_536)), (11, 1, 65_535));
+    assert_eq!(brief(parsed(&tables, b"a", 70_000)), (11, 1, 65_535));
+    // Less than a whole record is no room.
+    for words in 0..4 {
+        let mut tree = word_pattern(words);
+        let parsed = parse(&tables.image(), b"a", &mut tree, u32::MAX);
+        assert_eq!(brief(parsed), (11, 0, 0));
+        assert_eq!(tree, word_pattern(words));
+    }
+}
+
+#[test]
+fn queries_of_65_535_and_65_536_bytes() {
+    let image = small_image();
+    let text = vec![b'a'; 65_536];
+    let mut tree = word_pattern(40);
+    let before = tree.clone();
+    let refused = Parsed {
+        code: 6,
+        ..Parsed::default()
+    };
+    assert_eq!(parse(&image, &text, &mut tree, u32::MAX), refused);
+    assert_eq!(tree, before);
+    // One layout move and a name of all the text.
+    let done = Parsed {
+        code: 0,
+        place: 65_535,
+        records: 2,
+        moves: 65_536,
+        ..Parsed::default()
+    };
+    assert_eq!(parse(&image, &text[1..], &mut tree, 65_536), done);
+    assert_eq!(tree[..8], [2, 0, 65_535, 0, 64, 0, 1, 0]);
+    assert_eq!(tree[8..], before[8..]);
+    let short = Parsed {
+        code: 13,
+        moves: 65_535,
+        ..Parsed::default()
+    };
+    assert_eq!(parse(&image, &text[1..], &mut tree, 65_535), short);
+
+    let refused = Scanned {
+        code: 6,
+        ..Scanned::default()
+    };
+    assert_eq!(scan(&image, &text, 0, 4, u32::MAX), refused);
+    let done = Scanned {
+        code: 0,
+        place: 0,
+        set: 4,
+        length: 65_535,
+        moves: 65_535,
+    };
+    assert_eq!(scan(&image, &text[1..], 0, 4, 65_535), done);
+}
+
+#[test]
+fn pack_texts_of_65_535_and_65_536_bytes() {
+    for length in [65_534, 65_535] {
+        let image = with_text_length(length);
+        assert_eq!((shape(&image).code, image.len()), (0, 20_589));
+        let mut bytes = byte_pattern(65_600);
+        let done = Written {
+            code: 0,
+            number: length as u32,
+        };
+        assert_eq!(write(&image, &mut bytes), done);
+        assert!(bytes[length..] == byte_pattern(65_600)[length..]);
+        let mut room = word_pattern(20_700);
+        let done = Written {
+            code: 0,
+            number: 20_589,
+        };
+        assert_eq!(read(&bytes[..length], &mut room), done);
+        assert!(room[..20_589] == image);
+        assert!(room[20_589..] == word_pattern(20_700)[20_589..]);
+    }
+    // One byte more: the writer and the reader both give 2, and touch nothing, whatever the room.
+    let image = with_text_length(65_536);
+    let text = text_of(&Pack::new(&image));
+    assert_eq!((shape(&image).code, text.len()), (0, 65_536));
+    let long = Written { code: 2, number: 0 };
+    for room in [0, 100, 65_600] {
+        let mut bytes = byte_pattern(room);
+        assert_eq!(write(&image, &mut bytes), long);
+        assert_eq!(bytes, byte_pattern(room));
+    }
+    for room in [0, 20_589, 20_700] {
+        let mut words = word_pattern(room);
+        assert_eq!(read(&text, &mut words), long);
+        assert_eq!(words, word_pattern(room));
+    }
+}
+
+#[test]
+fn the_least_pack_accepts_the_empty_text() {
+    let image = image_of(LEAST_PACK);
+    assert_eq!((image.len(), check(&image).code), (50, 0));
+    let mut tree = word_pattern(7);
+    let done = Parsed {
+        code: 0,
+        records: 1,
+        ..Parsed::default()
+    };
+    assert_eq!(parse(&image, b"", &mut tree, 0), done);
+    assert_eq!(tree[..4], [64, 0, 0, 0]);
+    assert_eq!(tree[4..], word_pattern(7)[4..]);
+    let refused = Parsed {
+        code: 7,
+        ..Parsed::default()
+    };
+    assert_eq!(parse(&image, b"a", &mut tree, 0), refused);
+}
+
+#[test]
+fn allowances_of_0_and_4_294_967_295() {
+    let image = small_image();
+    let parsed = |text: &[u8], allowance| {
+        let mut tree = [0; 400];
+        let p = parse(&image, text, &mut tree, allowance);
+        (p.code, p.place, p.records, p.moves)
+    };
+    assert_eq!(parsed(b"tax", 0), (13, 0, 0, 0));
+    assert_eq!(parsed(b"tax by day", u32::MAX), (0, 10, 4, 13));
+    // No move would be taken: the empty text, and a byte without a move.
+    assert_eq!(parsed(b"", 0), (8, 0, 0, 0));
+    assert_eq!(parsed(b"7", 0), (7, 0, 0, 0));
+    let scanned = |text: &[u8], set, allowance| {
+        let s = scan(&image, text, 0, set, allowance);
+        (s.code, s.set, s.length, s.moves)
+    };
+    assert_eq!(scanned(b"tax", 4, 0), (13, 0, 0, 0));
+    assert_eq!(scanned(b"tax", 0, 0), (0, 0, 0, 0));
+    assert_eq!(scanned(b"tax", 1, 0), (0, 0, 0, 0));
+    assert_eq!(scanned(b"7", 4, 0), (0, 0, 0, 0));
+    assert_eq!(scanned(b"tax", 4, u32::MAX), (0, 4, 3, 3));
+    // Bits from T up and bit 0 are dropped.
+    assert_eq!(scanned(b"tax", u64::MAX, 3), (0, 4, 3, 3));
+    assert_eq!(scanned(b"tax", !0xf | 1, 0), (0, 0, 0, 0));
+}
+
+/// 65,535 bytes read by 65,537 scans: the layout scan, one for each of 65,535 records, and one for the record that has
+/// no room. That is the greatest allowance to the move. (About four thousand million moves, so it is run by
+/// `cargo test --release -- --ignored`.)
+#[test]
+#[ignore = "takes about 45 seconds"]
+fn the_greatest_allowance_is_used_to_the_last_move() {
+    let mut tables = letters(2, 2);
+    // Terminal 2 is layout, and may match for ever but never does.
+    tables.dom.push(0);
+    tables.layout = 4;
+    tables.moves[1][1] = 2;
+    tables.scan[0].poss = 6;
+    tables.scan[1].poss = 6;
+    // A is empty by production 0, and A by production 1 for ever.
+    tables.productions[1].symbols = vec![nonterminal(0)];
+    tables.act = vec![vec![0, REDUCE_0, 0], vec![0, REDUCE_1, 0]];
+    tables.goto[0][0] = 2;
+    let parsed = parsed(&tables, &vec![b'a'; 65_535], 65_535);
+    assert_eq!(brief(parsed), (11, 0, 65_535));
+    assert_eq!(parsed.moves, u32::MAX);
+}
+
+#[test]
+fn each_allowance_up_to_the_need_is_used_up_by_itself() {
+    let image = small_image();
+    // The scans of `tax by day`, with the move count before each: its place is given with 13.
+    let scans = [
+        (0, 0),
+        (1, 0),
+        (4, 3),
+        (5, 4),
+        (6, 4),
+        (8, 6),
+        (9, 7),
+        (10, 7),
+        (13, 10),
+    ];
+    for allowance in 0..13 {
+        let mut tree = [0; 16];
+        let parsed = parse(&image, b"tax by day", &mut tree, allowance);
+        assert_eq!((parsed.code, parsed.moves), (13, allowance));
+        let began: Vec<u32> = scans
+            .windows(2)
+            .filter(|pair| pair[0].0 <= allowance && allowance < pair[1].0)
+            .map(|pair| pair[0].1)
+            .collect();
+        assert_eq!(vec![parsed.place], began, "allowance {allowance}");
+    }
+}
+
+#[test]
+fn a_start_past_the_text_counts_as_its_end() {
+    let image = small_image();
+    for start in [3, 4, 65_535, 65_536, usize::MAX] {
+        let done = Scanned {
+            code: 0,
+            place: 3,
+            ..Scanned::default()
+        };
+        assert_eq!(scan(&image, b"tax", start, 4, 9), done);
+    }
+}
+
+#[test]
+fn a_leafs_bytes_for_any_words() {
+    let text = vec![7; 70_000];
+    assert_eq!(part(&text, [1, 65_535, 4_465, 0]), (65_535, 4_465));
+    assert_eq!(part(&text, [1, 65_535, 4_466, 0]), (0, 0));
+    assert_eq!(part(&text, [63, 65_535, 4_000, 9]), (65_535, 4_000));
+    assert_eq!(part(&text, [64, 1, 1, 0]), (0, 0));
+    assert_eq!(part(&text, [0, 1, 1, 0]), (0, 0));
+    assert_eq!(part(&text, [65_535, 1, 1, 0]), (0, 0));
+    assert_eq!(part(&text[..10], [1, 10, 0, 0]), (10, 0));
+    assert_eq!(part(&text[..10], [1, 10, 1, 0]), (0, 0));
+    assert_eq!(part(&text[..10], [1, 11, 0, 0]), (0, 0));
+    assert_eq!(part(&text[..10], [1, 65_535, 65_535, 0]), (0, 0));
+    assert_eq!(leaf(b"", [1, 0, 0, 0]), b"");
+}
+
+#[test]
+fn action_codes_and_actions_give_back_each_other() {
+    for code in 0..=u16::MAX {
+        assert_eq!(Action::from_code(code).code(), code);
+    }
+}
