@@ -29,7 +29,10 @@ fn number(head: &[u8; 40], i: usize) -> usize
     requires { ⌜ i < 10 ⌝ }
     ensures { λ r. ⌜ r < 4294967296 ⌝ }
 {
-    wide(head[i * 4]) + wide(head[i * 4 + 1]) * 256 + wide(head[i * 4 + 2]) * 65536 + wide(head[i * 4 + 3]) * 16777216
+    wide(head[i * 4])
+        + wide(head[i * 4 + 1]) * 256
+        + wide(head[i * 4 + 2]) * 65536
+        + wide(head[i * 4 + 3]) * 16777216
 }
 
 fn least(a: usize, b: usize) -> usize
@@ -61,11 +64,7 @@ fn bytes(text: &[u8], n: usize) -> &[u8] {
 
 fn shape(img: &[u16]) {
     let v = pack::shape(img);
-    if pack::is_wrong(v) {
-        print(4, b',');
-    } else {
-        print(0, b',');
-    }
+    print(pack::code_of(v) as u64, b',');
     print(pack::place_of(v) as u64, b'\n');
 }
 
@@ -126,7 +125,12 @@ struct Held {
     bytes: usize,
 }
 
-fn one_case(head: &mut [u8; 40], img: &mut [u16; 20700], text: &mut [u8; 65600], held: Held) -> Held {
+fn one_case(
+    head: &mut [u8; 40],
+    img: &mut [u16; 20700],
+    text: &mut [u8; 65600],
+    held: Held,
+) -> Held {
     if io::read_full(STDIN_FILENO, head) < 40 {
         return Held {
             more: false,
