@@ -301,10 +301,10 @@ module _ (img : List ℕ) {a : Verdict} (ea : a ≡ layoutRule img) where
       unfolding parserRules
       parser-3 w = (then-wrong _ prod-rows w ∙ then-good _ dom-rows gb ∙ then-good _ ea ga)
 
-      module _ (gd : isWrong d ≡ false) {f : Verdict} {s : ℕ} (ef : f ≡ each (rowRule img Act) s 0) (es : s ≡ states img) where
+      module _ (gd : isWrong d ≡ false) {f : Verdict} (ef : f ≡ each (rowRule img Act) (states img) 0) where
         act-rows : f ≡ each (λ r. each (actRule img r) (terminals img) 0) (states img) 0
         unfolding rowRule
-        act-rows = ef ∙ rw es
+        act-rows = ef
 
         pub parser-4 : isWrong f ≡ true → f ≡ parserRules img
         unfolding parserRules
@@ -356,3 +356,7 @@ module _ (img : List ℕ) {a : Verdict} (ea : a ≡ headRules img) where
     pub shape-3 : {d : Verdict} → isWrong b ≡ false → d ≡ scannerRules img → d ≡ shape img
     unfolding shape
     shape-3 gb ed = (ed ∙ then-good _ eb gb ∙ then-good _ ea ga)
+
+-- A table whose number of rows was read from the image.
+pub same-count : (test : ℕ → Verdict) {v : Verdict} {n m : ℕ} → v ≡ each test n 0 → n ≡ m → v ≡ each test m 0
+same-count test e f = e ∙ rw f

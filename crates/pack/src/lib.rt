@@ -3,10 +3,11 @@
 ghost use mathlib.Core.Path.{_≡_};
 ghost use Rattle.pack.specs.Image.{actionOf};
 ghost use Rattle.pack.specs.Laid.{Laid};
-ghost use Rattle.pack.specs.Shape.{isWrong, placeOf, parserRules, scannerRules, shape};
+ghost use Rattle.pack.specs.Shape.{isWrong, codeOf, placeOf, parserRules, scannerRules, shape};
 use rules::Table;
 
 pub mod image; // image.rt: each number of the image by its name
+pub mod quick; // quick.rt: passes that only say whether all is well
 pub mod rules; // rules.rt: the rules of the shape
 
 // What the shape test says: every word is right, or this is the place of the first wrong one.
@@ -22,6 +23,16 @@ pub fn is_wrong(v: Verdict) -> bool
     match v {
         Verdict::Good => false,
         Verdict::Wrong(_) => true,
+    }
+}
+
+// Document 01's code for a verdict: 0, or 4.
+pub fn code_of(v: Verdict) -> u8
+    ensures { λ r. ⌜ r ≡ codeOf v ⌝ }
+{
+    match v {
+        Verdict::Good => 0,
+        Verdict::Wrong(_) => 4,
     }
 }
 
@@ -77,7 +88,7 @@ fn parser_rules(img: &[u16]) -> Verdict
     if is_wrong(prod) {
         return prod;
     }
-    let act = rules::rows(img, Table::Act, image::states(img));
+    let act = rules::acts(img);
     if is_wrong(act) {
         return act;
     }

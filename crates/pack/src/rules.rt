@@ -3,6 +3,7 @@
 use super::Verdict;
 use super::image;
 use super::is_wrong;
+use super::quick;
 ghost use mathlib.Core.Path.{_≡_};
 ghost use mathlib.Core.Bool.{_&&_};
 ghost use Prim.Native.Nat.{ℕ, _+_, _*_, _<_, _≤_};
@@ -10,6 +11,7 @@ ghost use lib.Dec.{eqb};
 ghost use lib.ListN.{length};
 ghost use Rattle.sets.specs.Sets.{meet, isEmpty};
 ghost use Rattle.pack.specs.declared.Verdict.the-variants.{Good};
+ghost use Rattle.pack.specs.declared.rules.Table.the-variants.{Act};
 ghost use Rattle.pack.specs.Image.{word, terminals, nonterminals, productions, states, scanStates, classes, ranges, groups, prodAt, actAt, rangeAt, scanAt, groupAt, leastSize, greatestSize, actionOf};
 ghost use Rattle.pack.specs.Laid.{Laid};
 ghost use Rattle.pack.specs.Rows.{rowRule, rowsOf};
@@ -216,7 +218,7 @@ fn act_right(img: &[u16], t: usize, code: usize) -> bool
     rest / 2 < image::productions(img)
 }
 
-fn act_rule(img: &[u16], s: usize, t: usize) -> Verdict
+pub fn act_rule(img: &[u16], s: usize, t: usize) -> Verdict
     requires { ⌜ Laid (now img) ⌝ }
     requires { ⌜ (s < states (now img)) × (t < terminals (now img)) ⌝ }
     ensures { λ r. ⌜ r ≡ actRule (now (img .entry)) s t ⌝ }
@@ -410,11 +412,32 @@ pub fn rows(img: &[u16], table: Table, n: usize) -> Verdict
     Verdict::Good
 }
 
+fn wide(x: u16) -> usize
+    ensures { λ r. ⌜ r ≡ x ⌝ }
+{
+    x as usize
+}
+
+// The action table.
+pub fn acts(img: &[u16]) -> Verdict
+    requires { ⌜ Laid (now img) ⌝ }
+    ensures { λ r. ⌜ r ≡ each (rowRule (now (img .entry)) Act) (states (now (img .entry))) 0 ⌝ }
+{
+    if quick::acts(img) {
+        return Verdict::Good;
+    }
+    rows(img, Table::Act, image::states(img))
+}
+
 // The first of n words from a place on that is above the most it may be.
 fn cells(img: &[u16], start: usize, n: usize, most: usize) -> Verdict
     requires { ⌜ start + n ≤ length (now img) ⌝ }
     ensures { λ r. ⌜ r ≡ each (λ i. cellRule (now (img .entry)) most (start + i)) n 0 ⌝ }
 {
+    let end = start + n;
+    if wide(quick::largest(&img[start..end])) <= most {
+        return Verdict::Good;
+    }
     let mut i: usize = 0;
     while i < n {
         if most < image::word_at(img, start + i) {

@@ -33,36 +33,32 @@ returns-3 c =
     parser-3 _ (a .before .before .layout-rule .ensures) (sym (a .before .is-wrong .ensures) ∙ a .if1 .left) (b .rows .ensures) (b .before .terminals .ensures)
     (sym (i .before .is-wrong2 .ensures) ∙ i .if2 .left) (d .rows2 .ensures) (d .before .productions .ensures) (sym (c .before .is-wrong3 .ensures) ∙ c .if3 .taken)
 
-rows-requires-3 : tie.Need-rows-requires-3
-unfolding rowsOf
-rows-requires-3 c κs = (search needs, omega (arith, c .states .ensures))
-
 returns-4 : tie.Need-returns-4
 returns-4 c =
     let f = c .before .before in
-    let j = f .before .before in
+    let j = f .before in
     let d = j .before .before in
     let i = d .before .before in
     let b = i .before .before in
     let a = b .before .before in
     parser-4 _ (a .before .before .layout-rule .ensures) (sym (a .before .is-wrong .ensures) ∙ a .if1 .left) (b .rows .ensures) (b .before .terminals .ensures)
     (sym (i .before .is-wrong2 .ensures) ∙ i .if2 .left) (d .rows2 .ensures) (d .before .productions .ensures) (sym (j .before .is-wrong3 .ensures) ∙ j .if3 .left)
-    (f .rows3 .ensures) (f .before .states .ensures) (sym (c .before .is-wrong4 .ensures) ∙ c .if4 .taken)
+    (f .acts .ensures) (sym (c .before .is-wrong4 .ensures) ∙ c .if4 .taken)
 
 returns-5 : tie.Need-returns-5
 returns-5 c =
     let k = c .before in
     let f = k .before .before in
-    let j = f .before .before in
+    let j = f .before in
     let d = j .before .before in
     let i = d .before .before in
     let b = i .before .before in
     let a = b .before .before in
     parser-5 _ (a .before .before .layout-rule .ensures) (sym (a .before .is-wrong .ensures) ∙ a .if1 .left) (b .rows .ensures) (b .before .terminals .ensures)
     (sym (i .before .is-wrong2 .ensures) ∙ i .if2 .left) (d .rows2 .ensures) (d .before .productions .ensures) (sym (j .before .is-wrong3 .ensures) ∙ j .if3 .left)
-    (f .rows3 .ensures) (f .before .states .ensures) (sym (k .before .is-wrong4 .ensures) ∙ k .if4 .left) (c .gotos .ensures)
+    (f .acts .ensures) (sym (k .before .is-wrong4 .ensures) ∙ k .if4 .left) (c .gotos .ensures)
 
 pub parser-rules-spec : {M : Type 1} → statement M
 parser-rules-spec =
     tie.close
-    (tie.spec (λ c κs. search needs) (λ c κs. search needs) returns (λ c κs. search needs) rows-requires (λ c κs. search needs) returns-2 (λ c κs. search needs) rows-requires-2 (λ c κs. search needs) returns-3 (λ c κs. search needs) rows-requires-3 (λ c κs. search needs) returns-4 (λ c κs. search needs) returns-5)
+    (tie.spec (λ c κs. search needs) (λ c κs. search needs) returns (λ c κs. search needs) rows-requires (λ c κs. search needs) returns-2 (λ c κs. search needs) rows-requires-2 (λ c κs. search needs) returns-3 (λ c κs. search needs) (λ c κs. search needs) returns-4 (λ c κs. search needs) returns-5)

@@ -1,0 +1,71 @@
+// The entry points for C: include/zhgarelli.h declares them. A slice is a pointer and a length; the numbers given back go to the front of
+// `out`, in document 01's order, and the function answers how many they are. Where `out` has no room for them nothing is written
+// there, and the answer is 0.
+ghost use mathlib.Core.Path.{_≡_};
+ghost use mathlib.Core.List.{[], _∷_};
+ghost use Rattle.pack.specs.Shape.{shape};
+ghost use Rattle.scan.specs.Scan.{scanAlone};
+ghost use Rattle.capi.specs.Numbers.{told, written, ofShape, ofScan};
+
+// Two numbers, where there is room for them.
+fn put2(out: &mut [u64], a: u64, b: u64) -> usize
+    ensures { λ r. ⌜ r ≡ told (now (out .entry)) 2 ⌝ }
+    ensures { λ r. ⌜ now (out .exit) ≡ written (now (out .entry)) (a ∷ b ∷ []) ⌝ }
+{
+    if out.len() < 2 {
+        return 0;
+    }
+    out[0] = a;
+    out[1] = b;
+    2
+}
+
+// Five numbers, where there is room for them.
+fn put5(out: &mut [u64], a: u64, b: u64, c: u64, d: u64, e: u64) -> usize
+    ensures { λ r. ⌜ r ≡ told (now (out .entry)) 5 ⌝ }
+    ensures { λ r. ⌜ now (out .exit) ≡ written (now (out .entry)) (a ∷ b ∷ c ∷ d ∷ e ∷ []) ⌝ }
+{
+    if out.len() < 5 {
+        return 0;
+    }
+    out[0] = a;
+    out[1] = b;
+    out[2] = c;
+    out[3] = d;
+    out[4] = e;
+    5
+}
+
+// Shape: code and place.
+#[no_mangle]
+pub extern "C" fn zhg_shape(img: &[u16], out: &mut [u64]) -> usize
+    ensures { λ r. ⌜ r ≡ told (now (out .entry)) 2 ⌝ }
+    ensures { λ r. ⌜ now (out .exit) ≡ written (now (out .entry)) (ofShape (shape (now (img .entry)))) ⌝ }
+{
+    let v = pack::shape(img);
+    put2(out, pack::code_of(v) as u64, pack::place_of(v) as u64)
+}
+
+// The scan called by itself: code, place, set, length and moves.
+#[no_mangle]
+pub extern "C" fn zhg_scan(
+    img: &[u16],
+    text: &[u8],
+    start: usize,
+    set: u64,
+    allowance: u32,
+    out: &mut [u64],
+) -> usize
+    ensures { λ r. ⌜ r ≡ told (now (out .entry)) 5 ⌝ }
+    ensures { λ r. ⌜ now (out .exit) ≡ written (now (out .entry)) (ofScan (scanAlone (now (img .entry)) (now (text .entry)) start set allowance)) ⌝ }
+{
+    let s = scan::scan(img, text, start, set, allowance);
+    put5(
+        out,
+        s.code as u64,
+        s.place as u64,
+        s.set,
+        s.length as u64,
+        s.moves as u64,
+    )
+}
