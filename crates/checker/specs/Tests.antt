@@ -5,9 +5,9 @@ use Prim.Native.Nat.{ℕ, zero, suc, _+_, _*_, _-_}
 use lib.Dec.{eqb, leb}
 use Rattle.sets.specs.Sets.{member, meet, isEmpty, subset, several, single}
 use Rattle.pack.specs.Image.{terminals, states, scanStates, classes, dom, lhs, len, symbol, act, goto, move, acc, rej, poss, validSet, startSymbol}
+use Rattle.scan.specs.Tables.{matched}
 use Rattle.scan.specs.Token.{chosenOf}
 use Rattle.checker.specs.Edges.{allBelow, someBelow, leastFrom, implies, symbols, isEdge, leads, onlyOn, reached}
-use Rattle.checker.specs.Conditions.{matched}
 
 -- The t of M, of n from t on, with dom(t) ∩ M nonempty.
 unfoldable pub outrankedFrom : List ℕ → ℕ → ℕ → ℕ → ℕ

@@ -83,6 +83,10 @@ module _ (img : List ℕ) (good : shape img ≡ Good) where
   unfolding fits lacks
   fits-below set e = let b = both _ _ e in (ltb-true _ _ (b .0), eqb-true _ _ (b .1))
 
+  shares-nothing : (set : ℕ) → isEmpty set ≡ true → set ≡ 0
+  unfolding isEmpty
+  shares-nothing set e = eqb-true _ _ e
+
   scan-row : (q : ℕ) → q < scanStates img → scanRule img q ≡ Good
   scan-row q l = row _ _ (scanner .2) q l
 
@@ -93,6 +97,12 @@ module _ (img : List ℕ) (good : shape img ≡ Good) where
   pub good-rej : (q : ℕ) → q < scanStates img → (rej img q < 2 ^ terminals img) × (has (rej img q) 0 ≡ 0)
   unfolding scanRule
   good-rej q l = fits-below _ (both _ _ (rule-good _ _ (and-then-good _ _ (and-then-good _ _ (scan-row q l) .1) .0)) .0)
+
+  pub good-disjoint : (q : ℕ) → q < scanStates img → meet (acc img q) (rej img q) ≡ 0
+  unfolding scanRule
+  good-disjoint q l =
+      let b = both (fits img (rej img q)) _ (rule-good _ _ (and-then-good _ _ (and-then-good _ _ (scan-row q l) .1) .0)) in
+      shares-nothing _ (both (emptyAtStart q (rej img q)) _ (b .1) .1)
 
   pub good-poss : (q : ℕ) → q < scanStates img → (poss img q < 2 ^ terminals img) × (has (poss img q) 0 ≡ 0)
   unfolding scanRule

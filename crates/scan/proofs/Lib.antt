@@ -1,2 +1,4 @@
 pub mod Laws
+pub mod Longest
 pub mod Ranges
+pub mod Theory

@@ -1,4 +1,5 @@
 pub mod Classed
 pub mod Matching
 pub mod Scan
+pub mod Tables
 pub mod Token

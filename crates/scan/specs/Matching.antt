@@ -3,9 +3,11 @@
 -- Only what is accepted is a match of the scan. That a rejected terminal is one that is outranked is condition K1 of the check.
 use mathlib.Core.Path.{_≡_}
 use mathlib.Core.List.{List, [], _∷_}
-use Prim.Native.Nat.{ℕ, zero, suc}
-use Rattle.sets.specs.Sets.{has, union}
+use Prim.Native.Nat.{ℕ, zero, suc, _<_, _≤_}
+use lib.ListN.{length, take}
+use Rattle.sets.specs.Sets.{has, meet}
 use Rattle.pack.specs.Image.{classOf, move, acc, rej}
+use Rattle.scan.specs.Tables.{matched}
 
 -- Where the moves on these bytes lead from state q on: 1 more than the state, or 0 where there is no way.
 unfoldable pub ledFrom : List ℕ → ℕ → List ℕ → ℕ
@@ -31,4 +33,11 @@ pub record Rejects (img bytes : List ℕ) (t : ℕ) : Type 0 where
 pub record Matches (img bytes : List ℕ) (t : ℕ) : Type 0 where
   pub state : ℕ
   pub leads : Leads img bytes state
-  pub here : has (union (acc img state) (rej img state)) t ≡ 1
+  pub here : has (matched img state) t ≡ 1
+
+-- The last length at which, reading on, any valid terminal is accepted or rejected, and the state there.
+pub record Last (img bytes : List ℕ) (v n q : ℕ) : Type 0 where
+  pub within : n ≤ length bytes
+  pub leads : Leads img (take n bytes) q
+  pub here : meet (matched img q) v ≡ 0 → ⊥
+  pub after : (m p : ℕ) → n < m → m ≤ length bytes → Leads img (take m bytes) p → meet (matched img p) v ≡ 0
