@@ -1,7 +1,7 @@
 -- Document 01, "Text form: lines in this order, each ended by one LF, fields split by commas." The image has the same numbers
 -- in the same order, so one list of tables serves the reader and the writer.
 use mathlib.Core.List.{List, [], _∷_}
-use Prim.Native.Nat.{ℕ, zero, suc, _+_, _*_}
+use Prim.Native.Nat.{ℕ, zero, suc, _*_}
 use Rattle.pack.specs.Image.{terminals, nonterminals, productions, states, scanStates, classes, ranges, groups}
 use Rattle.text.specs.Bytes.{bytes}
 use Rattle.text.specs.declared.Row.{Row}

@@ -3,4 +3,5 @@ pub mod Delivery
 pub mod Fields
 pub mod Form
 pub mod Reader
+pub mod Steps
 pub mod Writer

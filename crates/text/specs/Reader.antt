@@ -1,15 +1,13 @@
 -- Reading a pack text: "Reader order: 2, 1, 4, 3. In it, size limits and len ≤ 14 belong to the line form."
 -- What is read are the bytes that are left; what has been read are the words of the image so far.
-use mathlib.Core.Bool.{Bool, true, false}
+use mathlib.Core.Bool.{true, false}
 use mathlib.Core.List.{List, [], _∷_, _++_}
-use Prim.Native.Nat.{ℕ, zero, suc, _+_, _-_}
+use Prim.Native.Nat.{ℕ, zero, suc, _-_}
 use lib.Dec.{eqb, leb, ltb}
 use lib.ListN.{length, drop}
-use Rattle.pack.specs.declared.Verdict.{Verdict}
 use Rattle.pack.specs.declared.Verdict.the-variants.{Good, Wrong}
 use Rattle.pack.specs.Numbers.{notTheForm, textTooLong, wrongShape, longestText}
 use Rattle.pack.specs.Shape.{shape, each, sizeRule}
-use Rattle.text.specs.declared.Field.{Field}
 use Rattle.text.specs.declared.Kind.{Kind}
 use Rattle.text.specs.declared.Kind.the-variants.{Number, Set}
 use Rattle.text.specs.declared.Row.{Row}

@@ -1,10 +1,9 @@
 -- Writing a pack text: "Writer: 4, 2, 3."
-use mathlib.Core.Bool.{Bool, true, false}
+use mathlib.Core.Bool.{true, false}
 use mathlib.Core.List.{List, [], _∷_, _++_}
 use Prim.Native.Nat.{ℕ, zero, suc, _+_, _*_}
 use lib.Dec.{ltb}
 use lib.ListN.{length, getD}
-use Rattle.pack.specs.declared.Verdict.{Verdict}
 use Rattle.pack.specs.declared.Verdict.the-variants.{Good, Wrong}
 use Rattle.pack.specs.Numbers.{textTooLong, wrongShape, longestText}
 use Rattle.pack.specs.Image.{layoutAt}
@@ -43,12 +42,10 @@ tablesText (t ∷ tables) img at =
 unfoldable pub textOf : List ℕ → List ℕ
 textOf img = packLine ++ (linesText (sizes .name) (sizes .row) (sizes .lines) img 1 ++ tablesText (tablesOf img) img layoutAt)
 
+-- An image of good shape: its text is not too long, and there is room.
+unfoldable pub writeGood : List ℕ → ℕ → Delivery
+writeGood img room =
+    elim (ltb longestText (length (textOf img))) [ true ↦ refuse textTooLong 0 | false ↦ deliver (textOf img) room ]
+
 unfoldable pub write : List ℕ → List ℕ → Delivery
-write img buffer =
-    elim (shape img) [
-      | Wrong place ↦ refuse wrongShape place
-      | Good ↦ elim (ltb longestText (length (textOf img))) [
-        | true ↦ refuse textTooLong 0
-        | false ↦ deliver (textOf img) (length buffer)
-      ]
-    ]
+write img buffer = elim (shape img) [ Wrong place ↦ refuse wrongShape place | Good ↦ writeGood img (length buffer) ]

@@ -1,0 +1,9 @@
+pub mod DeliverLaws
+pub mod FieldText
+pub mod FieldTrip
+pub mod ImageTrip
+pub mod Limits
+pub mod ReadLaws
+pub mod RoundTrip
+pub mod TextTrip
+pub mod WriteLaws

@@ -1,0 +1,204 @@
+-- Round trips. The text of an image of good shape is read back as that image, and what the reader accepts has good shape.
+use mathlib.Core.Path.{_≡_, refl, sym, ap, _∙_}
+use mathlib.Core.Bool.{Bool, true, false}
+use mathlib.Core.List.{List, [], _∷_, _++_, append-assoc, append-nil}
+use Prim.Native.Nat.{ℕ, _+_, _*_, _<_, _≤_}
+use native.Mathlib.Nat.{zero-add}
+use native.Mathlib.Omega.{arith}
+use lib.Dec.{ltb}
+use lib.ListN.{length, take}
+use lib.Seq.{take-length, getD-take, length-take-le}
+use borrow.Author.Tests.{lt-ltb, le-ltb, ltb-false, leb-true, eqb-true}
+use Rattle.pack.specs.declared.Verdict.{Verdict}
+use Rattle.pack.specs.declared.Verdict.the-variants.{Good, Wrong}
+use Rattle.pack.specs.Image.{word, productions, prodStart, layoutAt, len, symbol}
+use Rattle.pack.specs.Shape.{each, sizeRule, symbolRule, prodRule, headRules, parserRules, shape}
+use Rattle.pack.proofs.Laws.{rule-good, and-then-good, each-good, each-all}
+use Rattle.pack.proofs.Good.{good-laid}
+use Rattle.text.specs.declared.Row.the-variants.{Numbers, Sets, Production, Group}
+use Rattle.text.specs.Delivery.{deliver}
+use Rattle.text.specs.Form.{packLine, sizes, tablesOf, rowWidth}
+use Rattle.text.specs.Reader.{Lines, thenRead, thenLines, asLine, readTables, limited, readHead, ended, readAll, judge, read}
+use Rattle.text.specs.Reader.Line.{took}
+use Rattle.text.specs.Reader.Lines.{wrongFrom, all}
+use Rattle.text.specs.Writer.{rowText, linesText, tablesText, textOf, writeGood, write}
+use Rattle.text.specs.Steps.{isGood, tableWords, tablesFor}
+use Rattle.text.proofs.Limits.{limited-good, tables-are, sizes-take}
+use Rattle.text.proofs.DeliverLaws.{shape-sizes}
+use Rattle.text.proofs.ImageTrip.{Small, ProdRight, Right, take-one, expect-name, row-back, tables-back}
+use Rattle.text.proofs.TextTrip.{text-back}
+use Rattle.text.proofs.ImageTrip.Right.{no-more, more}
+
+-- No other row is a production.
+numbers-not : (n : ℕ) → Numbers n ≡ Production → ⊥
+numbers-not n e = let z : _≡_ {A = ℕ} 0 1 = cc in absurd (omega arith)
+
+sets-not : (n : ℕ) → Sets n ≡ Production → ⊥
+sets-not n e = let z : _≡_ {A = ℕ} 0 1 = cc in absurd (omega arith)
+
+group-not : Group ≡ Production → ⊥
+group-not e = let z : _≡_ {A = ℕ} 0 1 = cc in absurd (omega arith)
+
+line-one : (name row rest : List ℕ) → ((name ++ row) ++ []) ++ rest ≡ name ++ (row ++ rest)
+line-one name row rest = ap (λ (l : List ℕ). l ++ rest) (append-nil (name ++ row)) ∙ append-assoc name row rest
+
+-- ---- what good shape gives
+module _ (img : List ℕ) (good : shape img ≡ Good) where
+  prods : each (prodRule img) (productions img) 0 ≡ Good
+  unfolding shape parserRules
+  prods = and-then-good _ _ (and-then-good _ _ (and-then-good _ _ (and-then-good _ _ (and-then-good _ _ good .1) .0) .1) .1) .0
+
+  first : word img 0 ≡ 1
+  unfolding shape headRules
+  first = eqb-true _ _ (rule-good _ _ (and-then-good _ _ (and-then-good _ _ good .0) .0))
+
+  prod-right : (p : ℕ) → p < productions img → ProdRight img (prodStart img + p * 16)
+  unfolding prodRule symbolRule len symbol
+  prod-right p h =
+      let r : prodRule img p ≡ Good = rw (zero-add p) at (each-good (prodRule img) (productions img) 0 prods p h) in
+      let a = and-then-good _ _ (and-then-good _ _ r .1) in record {
+        most = leb-true _ _ (rule-good _ _ (a .0));
+        unused = λ j l k.
+            let q = rule-good _ _ (each-good (symbolRule img p) 14 0 (a .1) j k) in
+            eqb-true _ _ (simp (zero-add, le-ltb j _ l) at q);
+      }
+
+  -- Only the third table has productions.
+  tables-right : Right img (tablesOf img) layoutAt
+  unfolding tablesOf rowWidth
+  tables-right =
+      more (λ k h e. absurd (sets-not 1 e))
+      (more (λ k h e. absurd (sets-not 1 e))
+      (more (λ k h e. prod-right k h)
+      (more (λ k h e. absurd (numbers-not _ e))
+      (more (λ k h e. absurd (numbers-not _ e))
+      (more (λ k h e. absurd (numbers-not 3 e))
+      (more (λ k h e. absurd (numbers-not _ e))
+      (more (λ k h e. absurd (sets-not 3 e))
+      (more (λ k h e. absurd (group-not e))
+      no-more))))))))
+
+  all-words : layoutAt + tableWords (tablesOf img) ≡ length img
+  unfolding tablesOf tableWords rowWidth
+  all-words = omega (arith, good-laid img good .whole)
+
+  nine : 9 ≤ length img
+  nine = omega (arith, all-words)
+
+  -- The first nine words have the same sizes.
+  size-front : (i : ℕ) → i < 8 → sizeRule (take 9 img) (1 + i) ≡ Good
+  unfolding sizeRule
+  size-front i h =
+      let r : sizeRule img (1 + i) ≡ Good = each-good (sizeRule img) 8 1 (shape-sizes img good) i h in
+      let l = length-take-le 9 img nine in
+      simp (l, getD-take 9 img (1 + i) 0 (omega arith), lt-ltb (1 + i) 9 (omega arith)) (simp (lt-ltb (1 + i) (length img) (omega (arith, nine))) at r)
+
+  limited-front : (rest : List ℕ) → limited (take 9 img) rest ≡ took (take 9 img) rest
+  unfolding isGood
+  limited-front rest = limited-good (take 9 img) rest (rw (each-all (sizeRule (take 9 img)) 8 1 size-front))
+
+  tables-same : tablesOf (take 9 img) ≡ tablesOf img
+  tables-same = tables-are (take 9 img) ∙ ap tablesFor (sizes-take img 9 (omega arith)) ∙ sym (tables-are img)
+
+  module _ (small : Small img) where
+    head-back : (rest : List ℕ) → readHead (packLine ++ (linesText (sizes .name) (sizes .row) (sizes .lines) img 1 ++ rest)) ≡ all (take 9 img) rest
+    unfolding readHead thenLines asLine thenRead sizes linesText rowWidth
+    head-back rest =
+        let o : 1 ∷ [] ≡ take 1 img = ap (λ (v : ℕ). v ∷ []) (sym first) ∙ take-one img small 0 (omega (arith, nine)) in
+        let n = sizes .name in
+        let t : linesText n (Numbers 8) 1 img 1 ++ rest ≡ n ++ (rowText (Numbers 8) img 1 ++ rest) = line-one n (rowText (Numbers 8) img 1) rest in
+        rw (
+          expect-name img small packLine (1 ∷ []) (linesText n (Numbers 8) 1 img 1 ++ rest),
+          t,
+          o,
+          expect-name img small n (take 1 img) (rowText (Numbers 8) img 1 ++ rest),
+          row-back img small (Numbers 8) 1 rest (omega (arith, nine)) (λ e. absurd (numbers-not 8 e)),
+          limited-front rest,
+        )
+
+    -- The text of an image of good shape is read back as that image.
+    pub image-back : readAll (textOf img) ≡ all img []
+    unfolding readAll textOf thenLines ended
+    image-back =
+        let t : tablesText (tablesOf img) img layoutAt ≡ tablesText (tablesOf img) img layoutAt ++ [] = sym (append-nil _) in
+        let w : readTables (tablesOf img) (take 9 img) (tablesText (tablesOf img) img layoutAt) ≡ all img [] =
+        ap (readTables (tablesOf img) (take 9 img)) t ∙ tables-back img small (tablesOf img) layoutAt [] (omega (arith, all-words)) tables-right
+        ∙ rw (all-words, take-length img) in
+        rw (head-back (tablesText (tablesOf img) img layoutAt), tables-same, w)
+
+    -- So a reader with room enough gives done and exactly that image.
+    pub image-read : (buffer : List ℕ) → length (textOf img) ≤ 65535 → length img ≤ length buffer
+        → read (textOf img) buffer ≡ record { answer = record { code = 0; number = length img }; written = img }
+    unfolding read judge deliver
+    image-read buffer h l = simp (read, le-ltb 65535 (length (textOf img)) h, image-back, judge, good, deliver, le-ltb (length buffer) (length img) l)
+
+-- ---- what the reader accepts
+ended-nil : (l : Lines) (w b : List ℕ) → thenLines l ended ≡ all w b → b ≡ []
+unfolding thenLines ended
+ended-nil (wrongFrom c) w b e = let z : _≡_ {A = ℕ} 0 1 = cc in absurd (omega arith)
+ended-nil (all u []) w b e = cc
+ended-nil (all u (x ∷ c)) w b e = let z : _≡_ {A = ℕ} 0 1 = cc in absurd (omega arith)
+
+read-nil : (text w b : List ℕ) → readAll text ≡ all w b → b ≡ []
+unfolding readAll
+read-nil text w b e = ended-nil _ w b e
+
+-- Where it says done: the text is not too long, all its lines are right, the words have good shape, and there was room for them.
+pub record Accepted (text buffer : List ℕ) : Type 0 where
+  pub words : List ℕ
+  pub short : length text ≤ 65535
+  pub lines : readAll text ≡ all words []
+  pub good : shape words ≡ Good
+  pub room : length words ≤ length buffer
+  pub whole : read text buffer ≡ record { answer = record { code = 0; number = length words }; written = words }
+
+pub accepted : (text buffer : List ℕ) → read text buffer .answer .code ≡ 0 → Accepted text buffer
+unfolding read judge deliver
+accepted text buffer done = long (ltb 65535 (length text)) refl
+  where
+    room : (w : List ℕ) → ltb 65535 (length text) ≡ false → readAll text ≡ all w [] → shape w ≡ Good → (x : Bool) → ltb (length buffer) (length w) ≡ x → Accepted text buffer
+    room w a b c true d = let z : _≡_ {A = ℕ} 3 0 = simp (read, a, b, judge, c, deliver, d) at done in absurd (omega arith)
+    room w a b c false d = record {
+      words = w;
+      short = ltb-false 65535 (length text) a;
+      lines = b;
+      good = c;
+      room = ltb-false (length buffer) (length w) d;
+      whole = simp (read, a, b, judge, c, deliver, d);
+    }
+
+    formed : (w : List ℕ) → ltb 65535 (length text) ≡ false → readAll text ≡ all w [] → (v : Verdict) → shape w ≡ v → Accepted text buffer
+    formed w a b Good c = room w a b c (ltb (length buffer) (length w)) refl
+    formed w a b (Wrong p) c = let z : _≡_ {A = ℕ} 4 0 = simp (read, a, b, judge, c) at done in absurd (omega arith)
+
+    lined : ltb 65535 (length text) ≡ false → (l : Lines) → readAll text ≡ l → Accepted text buffer
+    lined a (wrongFrom c) b = let z : _≡_ {A = ℕ} 1 0 = simp (read, a, b, judge) at done in absurd (omega arith)
+    lined a (all w c) b = formed w a (b ∙ ap (all w) (read-nil text w c b)) (shape w) refl
+
+    long : (x : Bool) → ltb 65535 (length text) ≡ x → Accepted text buffer
+    long true a = let z : _≡_ {A = ℕ} 2 0 = simp (read, a) at done in absurd (omega arith)
+    long false a = lined a (readAll text) refl
+
+-- What the reader accepts has good shape.
+pub shape-read : (text buffer : List ℕ) → read text buffer .answer .code ≡ 0 → shape (read text buffer .written) ≡ Good
+shape-read text buffer done = let a = accepted text buffer done in rw (a .whole) (a .good)
+
+-- Its text is the text that was read, byte for byte.
+pub text-read : (text buffer : List ℕ) → read text buffer .answer .code ≡ 0 → textOf (read text buffer .written) ≡ text
+text-read text buffer done = let a = accepted text buffer done in rw (a .whole) (text-back text (a .words) (a .lines))
+
+-- No two texts have one image, and no text has two.
+pub one-text : (a b words : List ℕ) → readAll a ≡ all words [] → readAll b ≡ all words [] → a ≡ b
+one-text a b words p q = sym (text-back a words p) ∙ text-back b words q
+
+pub one-image : (text a b : List ℕ) → readAll text ≡ all a [] → readAll text ≡ all b [] → a ≡ b
+one-image text a b p q = cc
+
+-- What was read is written as it stood, where there is room for it.
+pub text-written : (text buffer out : List ℕ) → read text buffer .answer .code ≡ 0 → length text ≤ length out
+    → write (read text buffer .written) out ≡ record { answer = record { code = 0; number = length text }; written = text }
+unfolding write writeGood deliver
+text-written text buffer out done l =
+    let a = accepted text buffer done in
+    let t = text-back text (a .words) (a .lines) in
+    rw (a .whole) (simp (write, a .good, writeGood, t, le-ltb 65535 (length text) (a .short), deliver, le-ltb (length out) (length text) l))

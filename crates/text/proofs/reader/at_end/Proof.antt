@@ -1,0 +1,18 @@
+-- `text::reader::at_end` meets its contract.
+use borrow.Author.Needs.{needs}
+use borrow.Author.Tests.{not-true, not-false}
+use Rattle.text.proofs.ReadLaws.{lines-pass, end-more, end-here}
+use Rattle.text.proofs.reader.at_end.Statement.{statement}
+use Rattle.text.proofs.reader.at_end.Tie as tie
+
+returns : tie.Need-returns
+returns c = λ img. lines-pass _ _ _ _ _ _ (not-true _ (c .if1 .taken)) (search needs) (search needs)
+
+returns-2 : tie.Need-returns-2
+returns-2 c = λ img. end-more _ _ _ (search needs) (not-false _ (c .before .if1 .left)) (c .if2 .taken)
+
+returns-3 : tie.Need-returns-3
+returns-3 c = λ img. end-here _ _ _ (search needs) (not-false _ (c .before .if1 .left)) (c .if2 .left)
+
+pub at-end-spec : {M : Type 1} → statement M
+at-end-spec = tie.close (tie.spec returns returns-2 returns-3)

@@ -1,0 +1,17 @@
+-- `text::reader::whole_line` meets its contract.
+use mathlib.Core.Path.{refl}
+use Rattle.text.specs.Reader.{asLine}
+use Rattle.text.specs.Steps.{lineOf, linesOf}
+use Rattle.text.proofs.reader.whole_line.Statement.{statement}
+use Rattle.text.proofs.reader.whole_line.Tie as tie
+
+returns : tie.Need-returns
+unfolding lineOf linesOf asLine
+returns c = (λ text img. simp (lineOf, linesOf, asLine, c .if1 .taken), (refl, λ n h l. l))
+
+returns-2 : tie.Need-returns-2
+unfolding lineOf linesOf asLine
+returns-2 c = (λ text img. simp (lineOf, linesOf, asLine, c .if1 .left), (refl, λ n h l. h))
+
+pub whole-line-spec : {M : Type 1} → statement M
+whole-line-spec = tie.close (tie.spec returns returns-2)
