@@ -7,6 +7,7 @@ use lib.ListN.{length, drop}
 use Rattle.pack.specs.declared.Verdict.{Verdict}
 use Rattle.pack.specs.Shape.{codeOf, placeOf}
 use Rattle.scan.specs.declared.Scanned.{Scanned}
+use Rattle.text.specs.Delivery.{Delivery}
 
 -- So many numbers are told, or none where there is no room.
 unfoldable pub told : List ℕ → ℕ → ℕ
@@ -23,3 +24,7 @@ ofShape v = codeOf v ∷ placeOf v ∷ []
 -- Code, place, set, length and moves.
 abbrev pub ofScan : Scanned → List ℕ
 ofScan s = s .code ∷ s .place ∷ s .set ∷ s .length ∷ s .moves ∷ []
+
+-- Code and number.
+abbrev pub ofText : Delivery → List ℕ
+ofText d = d .answer .code ∷ d .answer .number ∷ []

@@ -5,7 +5,10 @@ ghost use mathlib.Core.Path.{_≡_};
 ghost use mathlib.Core.List.{[], _∷_};
 ghost use Rattle.pack.specs.Shape.{shape};
 ghost use Rattle.scan.specs.Scan.{scanAlone};
-ghost use Rattle.capi.specs.Numbers.{told, written, ofShape, ofScan};
+ghost use Rattle.capi.specs.Numbers.{told, written, ofShape, ofScan, ofText};
+ghost use Rattle.text.specs.Delivery.{bufferAfter};
+ghost use Rattle.text.specs.Reader.{read};
+ghost use Rattle.text.specs.Writer.{write};
 
 // Two numbers, where there is room for them.
 fn put2(out: &mut [u64], a: u64, b: u64) -> usize
@@ -68,4 +71,26 @@ pub extern "C" fn zhg_scan(
         s.length as u64,
         s.moves as u64,
     )
+}
+
+// Reads a pack text: code and number; the image goes to the front of the buffer.
+#[no_mangle]
+pub extern "C" fn zhg_read(text: &[u8], buffer: &mut [u16], out: &mut [u64]) -> usize
+    ensures { λ r. ⌜ r ≡ told (now (out .entry)) 2 ⌝ }
+    ensures { λ r. ⌜ now (out .exit) ≡ written (now (out .entry)) (ofText (read (now (text .entry)) (now (buffer .entry)))) ⌝ }
+    ensures { λ r. ⌜ now (buffer .exit) ≡ bufferAfter (now (buffer .entry)) (read (now (text .entry)) (now (buffer .entry))) ⌝ }
+{
+    let a = text::read(text, buffer);
+    put2(out, a.code as u64, a.number as u64)
+}
+
+// Writes an image as pack text: code and number; the text goes to the front of the buffer.
+#[no_mangle]
+pub extern "C" fn zhg_write(img: &[u16], buffer: &mut [u8], out: &mut [u64]) -> usize
+    ensures { λ r. ⌜ r ≡ told (now (out .entry)) 2 ⌝ }
+    ensures { λ r. ⌜ now (out .exit) ≡ written (now (out .entry)) (ofText (write (now (img .entry)) (now (buffer .entry)))) ⌝ }
+    ensures { λ r. ⌜ now (buffer .exit) ≡ bufferAfter (now (buffer .entry)) (write (now (img .entry)) (now (buffer .entry))) ⌝ }
+{
+    let a = text::write(img, buffer);
+    put2(out, a.code as u64, a.number as u64)
 }

@@ -19,6 +19,12 @@ fn wide(b: u8) -> usize
     b as usize
 }
 
+fn long(x: u16) -> u64
+    ensures { λ r. ⌜ r < 65536 ⌝ }
+{
+    x as u64
+}
+
 // Two bytes as a word, the low one first.
 fn word(low: u8, high: u8) -> u16 {
     (low as u16) + (high as u16) * 256
@@ -78,6 +84,91 @@ fn scan(img: &[u16], text: &[u8], head: &[u8; 40]) {
     print(r.moves as u64, b'\n');
 }
 
+// The checksum of a lent buffer, one element after the other.
+fn mixed(h: u64, x: u64) -> u64
+    requires { ⌜ (h < 4294967296) × (x < 65536) ⌝ }
+    ensures { λ r. ⌜ r < 4294967296 ⌝ }
+{
+    (h * 257 + x + 1) % 4294967291
+}
+
+fn sum_of_words(room: &[u16]) -> u64 {
+    let mut h: u64 = 1;
+    let mut i: usize = 0;
+    while i < room.len() {
+        h = mixed(h, long(room[i]));
+        i += 1;
+    }
+    h
+}
+
+fn sum_of_bytes(room: &[u8]) -> u64 {
+    let mut h: u64 = 1;
+    let mut i: usize = 0;
+    while i < room.len() {
+        h = mixed(h, long(word(room[i], 0)));
+        i += 1;
+    }
+    h
+}
+
+// What stands in a lent buffer before the call.
+fn pattern_of_words(room: &mut [u16]) {
+    let mut x: usize = 12345;
+    let mut i: usize = 0;
+    while i < room.len() {
+        room[i] = (x % 65536) as u16;
+        x = (x + 40503) % 65536;
+        i += 1;
+    }
+}
+
+fn pattern_of_bytes(room: &mut [u8]) {
+    let mut x: usize = 91;
+    let mut i: usize = 0;
+    while i < room.len() {
+        room[i] = (x % 256) as u8;
+        x = (x + 167) % 256;
+        i += 1;
+    }
+}
+
+fn read_into(text: &[u8], room: &mut [u16]) {
+    pattern_of_words(room);
+    let a = text::read(text, room);
+    print(a.code as u64, b',');
+    print(a.number as u64, b',');
+    print(sum_of_words(room), b'\n');
+}
+
+fn write_into(img: &[u16], room: &mut [u8]) {
+    pattern_of_bytes(room);
+    let a = text::write(img, room);
+    print(a.code as u64, b',');
+    print(a.number as u64, b',');
+    print(sum_of_bytes(room), b'\n');
+}
+
+fn read_with(text: &[u8], room: &mut [u16], n: usize) {
+    let k = least(n, room.len());
+    read_into(text, &mut room[..k]);
+}
+
+fn write_with(img: &[u16], room: &mut [u8], n: usize) {
+    let k = least(n, room.len());
+    write_into(img, &mut room[..k]);
+}
+
+fn read(text: &[u8], n: usize) {
+    let mut room = [0u16; 20700];
+    read_with(text, &mut room, n);
+}
+
+fn write(img: &[u16], n: usize) {
+    let mut room = [0u8; 65600];
+    write_with(img, &mut room, n);
+}
+
 fn answer(head: &[u8; 40], img: &[u16], text: &[u8]) {
     let kind = number(head, 0);
     if kind == 1 {
@@ -86,6 +177,14 @@ fn answer(head: &[u8; 40], img: &[u16], text: &[u8]) {
     }
     if kind == 2 {
         scan(img, text, head);
+        return;
+    }
+    if kind == 3 {
+        read(text, number(head, 3));
+        return;
+    }
+    if kind == 4 {
+        write(img, number(head, 3));
         return;
     }
     io::write_all(STDOUT_FILENO, b"\n");

@@ -1,0 +1,15 @@
+use borrow.Author.Needs.{needs}
+use mathlib.Core.Path.{sym, _∙_}
+use Rattle.capi.proofs.zhg_write.Statement.{statement}
+use Rattle.capi.proofs.zhg_write.Tie as tie
+
+returns : tie.Need-returns
+returns c =
+    let p = c .before .before in
+    let r = p .before .before .before .before .before in
+    (p .put2 .ensures .0, (rw (← r .write .ensures .0) (p .put2 .ensures .1), r .write .ensures .1))
+
+pub zhg-write-spec : {M : Type 1} → statement M
+zhg-write-spec =
+    tie.close
+    (tie.spec (λ c κs. search needs) (λ c. search needs) (λ c κs. search needs) (λ c. search needs) (λ c. search needs) returns)
