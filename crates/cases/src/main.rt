@@ -41,31 +41,14 @@ fn number(head: &[u8; 40], i: usize) -> usize
         + wide(head[i * 4 + 3]) * 16777216
 }
 
-fn least(a: usize, b: usize) -> usize
-    ensures { λ r. ⌜ (r ≤ a) × (r ≤ b) ⌝ }
-{
-    if a < b { a } else { b }
-}
-
 // The words of pairs of bytes, the low one first, as many as there is room for.
 fn join(raw: &[u8], img: &mut [u16]) {
-    let n = least(raw.len() / 2, img.len());
+    let n = parts::least(raw.len() / 2, img.len());
     let mut i: usize = 0;
     while i < n {
         img[i] = word(raw[i * 2], raw[i * 2 + 1]);
         i += 1;
     }
-}
-
-// The first n words or bytes, or all where there are fewer.
-fn words(img: &[u16], n: usize) -> &[u16] {
-    let k = least(n, img.len());
-    &img[..k]
-}
-
-fn bytes(text: &[u8], n: usize) -> &[u8] {
-    let k = least(n, text.len());
-    &text[..k]
 }
 
 fn shape(img: &[u16]) {
@@ -150,12 +133,12 @@ fn write_into(img: &[u16], room: &mut [u8]) {
 }
 
 fn read_with(text: &[u8], room: &mut [u16], n: usize) {
-    let k = least(n, room.len());
+    let k = parts::least(n, room.len());
     read_into(text, &mut room[..k]);
 }
 
 fn write_with(img: &[u16], room: &mut [u8], n: usize) {
-    let k = least(n, room.len());
+    let k = parts::least(n, room.len());
     write_into(img, &mut room[..k]);
 }
 
@@ -192,7 +175,7 @@ fn answer(head: &[u8; 40], img: &[u16], text: &[u8]) {
 
 // The next n bytes of the input, or as many as there is room for, at the front of the buffer.
 fn fill(buf: &mut [u8], n: usize) {
-    let k = least(n, buf.len());
+    let k = parts::least(n, buf.len());
     io::read_full(STDIN_FILENO, &mut buf[..k]);
 }
 
@@ -201,7 +184,7 @@ fn read_image(given: usize, before: usize, img: &mut [u16]) -> usize {
     if given == SAME {
         return before;
     }
-    let n = least(given, 20700);
+    let n = parts::least(given, 20700);
     let mut raw = [0u8; 41400];
     fill(&mut raw, n * 2);
     join(&raw, img);
@@ -239,7 +222,7 @@ fn one_case(
     }
     let n = read_image(number(head, 1), held.words, img);
     let m = read_text(number(head, 2), held.bytes, text);
-    answer(head, words(img, n), bytes(text, m));
+    answer(head, parts::words(img, n), parts::bytes(text, m));
     Held {
         more: true,
         words: n,

@@ -1,11 +1,12 @@
 use borrow.Author.Needs.{needs}
 use mathlib.Core.Path.{sym}
+use native.Mathlib.Omega.{arith}
 use lib.Seq.{length-take-le}
 use Rattle.cases.proofs.fill.Statement.{statement}
 use Rattle.cases.proofs.fill.Tie as tie
 
 slice-aggregate-read-full : tie.Need-slice-aggregate-read-full
-slice-aggregate-read-full c = sym (length-take-le _ (c .before .before .before .args .buf .now) (c .before .least .ensures .1))
+slice-aggregate-read-full c = sym (length-take-le _ (c .before .before .before .args .buf .now) (omega (arith, c .before .least .ensures)))
 
 pub fill-spec : {M : Type 1} → statement M
 fill-spec =

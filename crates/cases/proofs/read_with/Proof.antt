@@ -1,11 +1,12 @@
 use borrow.Author.Needs.{needs}
 use mathlib.Core.Path.{sym}
+use native.Mathlib.Omega.{arith}
 use lib.Seq.{length-take-le}
 use Rattle.cases.proofs.read_with.Statement.{statement}
 use Rattle.cases.proofs.read_with.Tie as tie
 
 slice-aggregate-read-into : tie.Need-slice-aggregate-read-into
-slice-aggregate-read-into c = sym (length-take-le _ (c .before .before .before .before .args .room .now) (c .before .least .ensures .1))
+slice-aggregate-read-into c = sym (length-take-le _ (c .before .before .before .before .args .room .now) (omega (arith, c .before .least .ensures)))
 
 pub read-with-spec : {M : Type 1} → statement M
 read-with-spec =

@@ -1,11 +1,12 @@
 use borrow.Author.Needs.{needs}
 use mathlib.Core.Path.{sym}
+use native.Mathlib.Omega.{arith}
 use lib.Seq.{length-take-le}
 use Rattle.cases.proofs.write_with.Statement.{statement}
 use Rattle.cases.proofs.write_with.Tie as tie
 
 slice-aggregate-write-into : tie.Need-slice-aggregate-write-into
-slice-aggregate-write-into c = sym (length-take-le _ (c .before .before .before .before .args .room .now) (c .before .least .ensures .1))
+slice-aggregate-write-into c = sym (length-take-le _ (c .before .before .before .before .args .room .now) (omega (arith, c .before .least .ensures)))
 
 pub write-with-spec : {M : Type 1} → statement M
 write-with-spec =

@@ -1,0 +1,19 @@
+use borrow.Author.Needs.{needs}
+use mathlib.Core.Path.{sym, ap}
+use Prim.Native.Nat.{ℕ}
+use native.Mathlib.Omega.{arith}
+use lib.ListN.{take}
+use lib.Seq.{length-take-le}
+use Rattle.parts.proofs.bytes.Statement.{statement}
+use Rattle.parts.proofs.bytes.Tie as tie
+
+slice-aggregate-result : tie.Need-slice-aggregate-result
+slice-aggregate-result c = sym (length-take-le _ (c .before .before .before .args .text .now) (omega (arith, c .before .least .ensures)))
+
+returns : tie.Need-returns
+returns c = rw (c .before .least .ensures)
+
+pub bytes-spec : {M : Type 1} → statement M
+bytes-spec =
+    tie.close
+    (tie.spec (λ c κs. search needs) slice-aggregate-result returns)
