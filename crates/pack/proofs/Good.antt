@@ -10,9 +10,9 @@ use borrow.Author.Tests.{ne-eqb, leb-true, ltb-true, eqb-true}
 use Rattle.sets.specs.Sets.{has, lacks, isEmpty, meet}
 use Rattle.pack.specs.declared.Verdict.{Verdict}
 use Rattle.pack.specs.declared.Verdict.the-variants.{Good, Wrong}
-use Rattle.pack.specs.Image.{terminals, nonterminals, states, scanStates, classes, ranges, layout, goto, move, lo, hi, rangeClass, acc, rej, poss, classIn, classOf}
+use Rattle.pack.specs.Image.{terminals, nonterminals, states, scanStates, classes, ranges, layout, goto, move, lo, hi, rangeClass, acc, rej, poss, classIn, classOf, needed}
 use Rattle.pack.specs.Shape.{each, headRules, parserRules, scannerRules, fits, layoutRule, cellRule, gotoRules, moveRules, abovePrevious, rangeRule, emptyAtStart, scanRule, shape}
-use Rattle.pack.specs.Laid.{Laid}
+use Rattle.pack.specs.Laid.{Sized, Laid}
 use Rattle.pack.proofs.Laws.{both, rule-good, and-then-good, each-good, head-laid}
 
 module _ (img : List ℕ) (good : shape img ≡ Good) where
@@ -123,3 +123,7 @@ module _ (img : List ℕ) (good : shape img ≡ Good) where
   pub good-layout : (layout img < 2 ^ terminals img) × (has (layout img) 0 ≡ 0)
   unfolding parserRules layoutRule
   good-layout = fits-below _ (rule-good _ _ (and-then-good _ _ (parts .1) .0))
+
+-- "The largest image is 20,589 words."
+pub largest-image : (img : List ℕ) → Sized img → needed img ≤ 20589
+largest-image img s = omega arith
