@@ -1,0 +1,20 @@
+/* The plain versions, with the arguments and answers of include/zhgarelli.h: plain.c in C, plain.rs in safe Rust. */
+#ifndef PLAIN_H
+#define PLAIN_H
+
+#include <stddef.h>
+#include <stdint.h>
+
+size_t plain_c_shape(const uint16_t *img, size_t img_words, uint64_t *out, size_t out_len);
+size_t plain_c_scan(const uint16_t *img, size_t img_words, const uint8_t *text, size_t text_bytes, size_t start, uint64_t set,
+                    uint32_t allowance, uint64_t *out, size_t out_len);
+size_t plain_c_read(const uint8_t *text, size_t text_bytes, uint16_t *buffer, size_t buffer_words, uint64_t *out, size_t out_len);
+size_t plain_c_write(const uint16_t *img, size_t img_words, uint8_t *buffer, size_t buffer_bytes, uint64_t *out, size_t out_len);
+
+size_t plain_rust_shape(const uint16_t *img, size_t img_words, uint64_t *out, size_t out_len);
+size_t plain_rust_scan(const uint16_t *img, size_t img_words, const uint8_t *text, size_t text_bytes, size_t start, uint64_t set,
+                       uint32_t allowance, uint64_t *out, size_t out_len);
+size_t plain_rust_read(const uint8_t *text, size_t text_bytes, uint16_t *buffer, size_t buffer_words, uint64_t *out, size_t out_len);
+size_t plain_rust_write(const uint16_t *img, size_t img_words, uint8_t *buffer, size_t buffer_bytes, uint64_t *out, size_t out_len);
+
+#endif

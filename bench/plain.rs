@@ -1,0 +1,586 @@
+//! Shape, the scan called by itself, the reader and the writer in plain safe Rust, written from document 01 the obvious way: each test
+//! leaves at the first wrong word or line. Only the entry points at the end, which turn C's pointers into slices, hold `unsafe`.
+
+struct Pack {
+    terminals: usize,
+    nonterminals: usize,
+    productions: usize,
+    states: usize,
+    scan_states: usize,
+    classes: usize,
+    ranges: usize,
+    groups: usize,
+    /// The first word of each table, and the number of words of the whole image.
+    dom: usize,
+    prod: usize,
+    act: usize,
+    goto: usize,
+    class: usize,
+    moves: usize,
+    scan: usize,
+    group: usize,
+    end: usize,
+}
+
+impl Pack {
+    fn of(img: &[u16]) -> Pack {
+        let size = |i: usize| usize::from(img[i]);
+        let (terminals, nonterminals, productions, states) = (size(1), size(2), size(3), size(4));
+        let (scan_states, classes, ranges, groups) = (size(5), size(6), size(7), size(8));
+        let dom = 13;
+        let prod = dom + terminals * 4;
+        let act = prod + productions * 16;
+        let goto = act + states * terminals;
+        let class = goto + states * nonterminals;
+        let moves = class + ranges * 3;
+        let scan = moves + scan_states * classes;
+        let group = scan + scan_states * 12;
+        let end = group + groups * 5;
+        Pack {
+            terminals,
+            nonterminals,
+            productions,
+            states,
+            scan_states,
+            classes,
+            ranges,
+            groups,
+            dom,
+            prod,
+            act,
+            goto,
+            class,
+            moves,
+            scan,
+            group,
+            end,
+        }
+    }
+}
+
+fn set_at(img: &[u16], i: usize) -> u64 {
+    let words = &img[i..i + 4];
+    u64::from(words[0]) | u64::from(words[1]) << 16 | u64::from(words[2]) << 32 | u64::from(words[3]) << 48
+}
+
+fn has(set: u64, t: usize) -> bool {
+    t < 64 && set >> t & 1 != 0
+}
+
+fn below(t: usize) -> u64 {
+    if t < 64 {
+        (1 << t) - 1
+    } else {
+        u64::MAX
+    }
+}
+
+fn symbol_right(p: &Pack, layout: u64, symbol: usize) -> bool {
+    if symbol < 64 {
+        symbol != 0 && symbol < p.terminals && !has(layout, symbol)
+    } else {
+        symbol < 64 + p.nonterminals
+    }
+}
+
+fn action_right(p: &Pack, layout: u64, t: usize, code: usize) -> bool {
+    if code == 0 {
+        true
+    } else if has(layout, t) {
+        false
+    } else if code == 1 {
+        t == 0
+    } else if code % 2 == 0 {
+        t != 0 && (code - 2) / 2 < p.states
+    } else {
+        (code - 3) / 2 < p.productions
+    }
+}
+
+const LEAST: [u16; 9] = [1, 1, 1, 1, 1, 1, 1, 0, 0];
+const GREATEST: [u16; 9] = [1, 64, 32, 128, 128, 128, 32, 64, 32];
+
+/// The tables, or the place of the first wrong word.
+fn shape(img: &[u16]) -> Result<Pack, usize> {
+    for i in 0..9 {
+        if img.len() <= i || img[i] < LEAST[i] || img[i] > GREATEST[i] {
+            return Err(i);
+        }
+    }
+    let p = Pack::of(img);
+    if img.len() != p.end {
+        return Err(img.len().min(p.end));
+    }
+
+    let never = !below(p.terminals) | 1;
+    let layout = set_at(img, 9);
+    if layout & never != 0 {
+        return Err(9);
+    }
+    for t in 0..p.terminals {
+        let at = p.dom + t * 4;
+        let set = set_at(img, at);
+        let wrong = if t == 0 { set != 0 } else { set & never != 0 || has(set, t) };
+        if wrong {
+            return Err(at);
+        }
+    }
+    for i in 0..p.productions {
+        let at = p.prod + i * 16;
+        let production = &img[at..at + 16];
+        if usize::from(production[0]) >= p.nonterminals {
+            return Err(at);
+        }
+        let len = usize::from(production[1]);
+        if len > 14 {
+            return Err(at + 1);
+        }
+        for (k, &symbol) in production[2..].iter().enumerate() {
+            let right = if k < len { symbol_right(&p, layout, usize::from(symbol)) } else { symbol == 0 };
+            if !right {
+                return Err(at + 2 + k);
+            }
+        }
+    }
+    for s in 0..p.states {
+        let at = p.act + s * p.terminals;
+        for (t, &code) in img[at..at + p.terminals].iter().enumerate() {
+            if !action_right(&p, layout, t, usize::from(code)) {
+                return Err(at + t);
+            }
+        }
+    }
+    for (i, &code) in img[p.goto..p.class].iter().enumerate() {
+        if usize::from(code) > p.states {
+            return Err(p.goto + i);
+        }
+    }
+    for r in 0..p.ranges {
+        let at = p.class + r * 3;
+        if r != 0 && img[at] <= img[at - 2] {
+            return Err(at);
+        }
+        if img[at + 1] < img[at] || img[at + 1] > 255 {
+            return Err(at + 1);
+        }
+        if usize::from(img[at + 2]) >= p.classes {
+            return Err(at + 2);
+        }
+    }
+    for (i, &code) in img[p.moves..p.scan].iter().enumerate() {
+        if usize::from(code) > p.scan_states {
+            return Err(p.moves + i);
+        }
+    }
+    for q in 0..p.scan_states {
+        let at = p.scan + q * 12;
+        let (acc, rej, poss) = (set_at(img, at), set_at(img, at + 4), set_at(img, at + 8));
+        if acc & never != 0 || q == 0 && acc != 0 {
+            return Err(at);
+        }
+        if rej & never != 0 || q == 0 && rej != 0 || acc & rej != 0 {
+            return Err(at + 4);
+        }
+        if poss & never != 0 {
+            return Err(at + 8);
+        }
+    }
+    for g in 0..p.groups {
+        let at = p.group + g * 5;
+        let set = set_at(img, at);
+        if set & never != 0 || set.count_ones() < 2 {
+            return Err(at);
+        }
+        if (0..g).any(|earlier| set_at(img, p.group + earlier * 5) == set) {
+            return Err(at);
+        }
+        if !has(set, usize::from(img[at + 4])) {
+            return Err(at + 4);
+        }
+    }
+    Ok(p)
+}
+
+fn class_row(img: &[u16], p: &Pack) -> [u8; 256] {
+    let mut row = [0; 256];
+    for range in img[p.class..p.moves].chunks_exact(3) {
+        row[usize::from(range[0])..=usize::from(range[1])].fill(range[2] as u8);
+    }
+    row
+}
+
+/// Code, place, set, length and moves.
+fn scan(img: &[u16], text: &[u8], start: usize, set: u64, allowance: u32) -> [u64; 5] {
+    if text.len() > 65535 {
+        return [6, 0, 0, 0, 0];
+    }
+    let p = match shape(img) {
+        Ok(p) => p,
+        Err(place) => return [4, place as u64, 0, 0, 0],
+    };
+    let row = class_row(img, &p);
+    let start = start.min(text.len());
+    let valid = set & below(p.terminals) & !1;
+    let (mut kept, mut length) = (0, 0);
+    let (mut state, mut moves) = (0, 0);
+    for &byte in &text[start..] {
+        if set_at(img, p.scan + state * 12 + 8) & valid == 0 {
+            break;
+        }
+        let to = usize::from(img[p.moves + state * p.classes + usize::from(row[usize::from(byte)])]);
+        if to == 0 {
+            break;
+        }
+        if moves == u64::from(allowance) {
+            return [13, start as u64, 0, 0, moves];
+        }
+        state = to - 1;
+        moves += 1;
+        let acc = set_at(img, p.scan + state * 12) & valid;
+        if acc != 0 {
+            (kept, length) = (acc, moves);
+        } else if set_at(img, p.scan + state * 12 + 4) & valid != 0 {
+            (kept, length) = (0, 0);
+        }
+    }
+    [0, start as u64, kept, length, moves]
+}
+
+struct Reader<'t> {
+    text: &'t [u8],
+    at: usize,
+    line: usize,
+    image: Vec<u16>,
+}
+
+/// A line is not of the form.
+struct Malformed;
+
+impl Reader<'_> {
+    fn take(&mut self, byte: u8) -> Result<(), Malformed> {
+        if self.text.get(self.at) != Some(&byte) {
+            return Err(Malformed);
+        }
+        self.at += 1;
+        Ok(())
+    }
+
+    /// The line's name and its `=`.
+    fn name(&mut self, name: &str) -> Result<(), Malformed> {
+        self.line = self.at;
+        if !self.text[self.at..].starts_with(name.as_bytes()) {
+            return Err(Malformed);
+        }
+        self.at += name.len();
+        Ok(())
+    }
+
+    fn number(&mut self) -> Result<(), Malformed> {
+        if self.take(b'0').is_ok() {
+            self.image.push(0);
+            return Ok(());
+        }
+        let first = self.at;
+        let mut number: u32 = 0;
+        while let Some(byte @ b'0'..=b'9') = self.text.get(self.at) {
+            number = number * 10 + u32::from(byte - b'0');
+            if number > 65535 {
+                return Err(Malformed);
+            }
+            self.at += 1;
+        }
+        if self.at == first {
+            return Err(Malformed);
+        }
+        self.image.push(number as u16);
+        Ok(())
+    }
+
+    fn set(&mut self) -> Result<(), Malformed> {
+        let digits = self.text.get(self.at..self.at + 16).ok_or(Malformed)?;
+        let mut set: u64 = 0;
+        for &digit in digits {
+            let value = match digit {
+                b'0'..=b'9' => digit - b'0',
+                b'a'..=b'f' => digit - b'a' + 10,
+                _ => return Err(Malformed),
+            };
+            set = set << 4 | u64::from(value);
+        }
+        self.at += 16;
+        self.image.extend([set as u16, (set >> 16) as u16, (set >> 32) as u16, (set >> 48) as u16]);
+        Ok(())
+    }
+
+    fn numbers_line(&mut self, name: &str, count: usize) -> Result<(), Malformed> {
+        self.name(name)?;
+        for i in 0..count {
+            if i != 0 {
+                self.take(b',')?;
+            }
+            self.number()?;
+        }
+        self.take(b'\n')
+    }
+
+    fn sets_line(&mut self, name: &str, count: usize) -> Result<(), Malformed> {
+        self.name(name)?;
+        for i in 0..count {
+            if i != 0 {
+                self.take(b',')?;
+            }
+            self.set()?;
+        }
+        self.take(b'\n')
+    }
+
+    fn production_line(&mut self) -> Result<(), Malformed> {
+        self.name("prod=")?;
+        self.number()?;
+        self.take(b',')?;
+        self.number()?;
+        let len = usize::from(self.image[self.image.len() - 1]);
+        if len > 14 {
+            return Err(Malformed);
+        }
+        for _ in 0..len {
+            self.take(b',')?;
+            self.number()?;
+        }
+        self.image.resize(self.image.len() + 14 - len, 0);
+        self.take(b'\n')
+    }
+
+    fn group_line(&mut self) -> Result<(), Malformed> {
+        self.name("group=")?;
+        self.set()?;
+        self.take(b',')?;
+        self.number()?;
+        self.take(b'\n')
+    }
+
+    fn lines(&mut self) -> Result<(), Malformed> {
+        self.numbers_line("pack=", 1)?;
+        if self.image[0] != 1 {
+            return Err(Malformed);
+        }
+        self.numbers_line("size=", 8)?;
+        if (0..9).any(|i| self.image[i] < LEAST[i] || self.image[i] > GREATEST[i]) {
+            return Err(Malformed);
+        }
+        let p = Pack::of(&self.image);
+        self.sets_line("layout=", 1)?;
+        (0..p.terminals).try_for_each(|_| self.sets_line("dom=", 1))?;
+        (0..p.productions).try_for_each(|_| self.production_line())?;
+        (0..p.states).try_for_each(|_| self.numbers_line("act=", p.terminals))?;
+        (0..p.states).try_for_each(|_| self.numbers_line("goto=", p.nonterminals))?;
+        (0..p.ranges).try_for_each(|_| self.numbers_line("class=", 3))?;
+        (0..p.scan_states).try_for_each(|_| self.numbers_line("move=", p.classes))?;
+        (0..p.scan_states).try_for_each(|_| self.sets_line("scan=", 3))?;
+        (0..p.groups).try_for_each(|_| self.group_line())?;
+        self.line = self.at;
+        if self.at == self.text.len() {
+            Ok(())
+        } else {
+            Err(Malformed)
+        }
+    }
+}
+
+/// Code and number.
+fn read(text: &[u8], buffer: &mut [u16]) -> [u64; 2] {
+    if text.len() > 65535 {
+        return [2, 0];
+    }
+    let mut reader = Reader {
+        text,
+        at: 0,
+        line: 0,
+        image: Vec::with_capacity(text.len()),
+    };
+    if reader.lines().is_err() {
+        return [1, reader.line as u64];
+    }
+    let image = reader.image;
+    if let Err(place) = shape(&image) {
+        return [4, place as u64];
+    }
+    match buffer.get_mut(..image.len()) {
+        None => [3, image.len() as u64],
+        Some(front) => {
+            front.copy_from_slice(&image);
+            [0, image.len() as u64]
+        }
+    }
+}
+
+fn put_number(text: &mut Vec<u8>, number: u16) {
+    if number >= 10000 {
+        text.push(b'0' + (number / 10000) as u8);
+    }
+    if number >= 1000 {
+        text.push(b'0' + (number / 1000 % 10) as u8);
+    }
+    if number >= 100 {
+        text.push(b'0' + (number / 100 % 10) as u8);
+    }
+    if number >= 10 {
+        text.push(b'0' + (number / 10 % 10) as u8);
+    }
+    text.push(b'0' + (number % 10) as u8);
+}
+
+fn put_set(text: &mut Vec<u8>, words: &[u16]) {
+    for word in words.iter().rev() {
+        for shift in [12, 8, 4, 0] {
+            text.push(b"0123456789abcdef"[usize::from(word >> shift & 15)]);
+        }
+    }
+}
+
+fn put_numbers(text: &mut Vec<u8>, name: &str, numbers: &[u16]) {
+    text.extend_from_slice(name.as_bytes());
+    for (i, &number) in numbers.iter().enumerate() {
+        if i != 0 {
+            text.push(b',');
+        }
+        put_number(text, number);
+    }
+    text.push(b'\n');
+}
+
+fn put_sets(text: &mut Vec<u8>, name: &str, words: &[u16]) {
+    text.extend_from_slice(name.as_bytes());
+    for (i, set) in words.chunks_exact(4).enumerate() {
+        if i != 0 {
+            text.push(b',');
+        }
+        put_set(text, set);
+    }
+    text.push(b'\n');
+}
+
+/// Code and number.
+fn write(img: &[u16], buffer: &mut [u8]) -> [u64; 2] {
+    let p = match shape(img) {
+        Ok(p) => p,
+        Err(place) => return [4, place as u64],
+    };
+    let mut text = Vec::with_capacity(img.len() * 4);
+    put_numbers(&mut text, "pack=", &img[..1]);
+    put_numbers(&mut text, "size=", &img[1..9]);
+    put_sets(&mut text, "layout=", &img[9..13]);
+    for set in img[p.dom..p.prod].chunks_exact(4) {
+        put_sets(&mut text, "dom=", set);
+    }
+    for production in img[p.prod..p.act].chunks_exact(16) {
+        put_numbers(&mut text, "prod=", &production[..2 + usize::from(production[1])]);
+    }
+    for row in img[p.act..p.goto].chunks_exact(p.terminals) {
+        put_numbers(&mut text, "act=", row);
+    }
+    for row in img[p.goto..p.class].chunks_exact(p.nonterminals) {
+        put_numbers(&mut text, "goto=", row);
+    }
+    for range in img[p.class..p.moves].chunks_exact(3) {
+        put_numbers(&mut text, "class=", range);
+    }
+    for row in img[p.moves..p.scan].chunks_exact(p.classes) {
+        put_numbers(&mut text, "move=", row);
+    }
+    for sets in img[p.scan..p.group].chunks_exact(12) {
+        put_sets(&mut text, "scan=", sets);
+    }
+    for group in img[p.group..p.end].chunks_exact(5) {
+        text.extend_from_slice(b"group=");
+        put_set(&mut text, &group[..4]);
+        text.push(b',');
+        put_number(&mut text, group[4]);
+        text.push(b'\n');
+    }
+    if text.len() > 65535 {
+        return [2, 0];
+    }
+    match buffer.get_mut(..text.len()) {
+        None => [3, text.len() as u64],
+        Some(front) => {
+            front.copy_from_slice(&text);
+            [0, text.len() as u64]
+        }
+    }
+}
+
+fn tell(out: &mut [u64], numbers: &[u64]) -> usize {
+    if out.len() < numbers.len() {
+        return 0;
+    }
+    out[..numbers.len()].copy_from_slice(numbers);
+    numbers.len()
+}
+
+/// # Safety
+/// Each pointer has as many elements behind it as its length says.
+#[no_mangle]
+pub unsafe extern "C" fn plain_rust_shape(img: *const u16, img_words: usize, out: *mut u64, out_len: usize) -> usize {
+    let img = std::slice::from_raw_parts(img, img_words);
+    let out = std::slice::from_raw_parts_mut(out, out_len);
+    match shape(img) {
+        Ok(_) => tell(out, &[0, 0]),
+        Err(place) => tell(out, &[4, place as u64]),
+    }
+}
+
+/// # Safety
+/// Each pointer has as many elements behind it as its length says.
+#[no_mangle]
+#[allow(clippy::too_many_arguments)]
+pub unsafe extern "C" fn plain_rust_scan(
+    img: *const u16,
+    img_words: usize,
+    text: *const u8,
+    text_bytes: usize,
+    start: usize,
+    set: u64,
+    allowance: u32,
+    out: *mut u64,
+    out_len: usize,
+) -> usize {
+    let img = std::slice::from_raw_parts(img, img_words);
+    let text = std::slice::from_raw_parts(text, text_bytes);
+    let out = std::slice::from_raw_parts_mut(out, out_len);
+    tell(out, &scan(img, text, start, set, allowance))
+}
+
+/// # Safety
+/// Each pointer has as many elements behind it as its length says.
+#[no_mangle]
+pub unsafe extern "C" fn plain_rust_read(
+    text: *const u8,
+    text_bytes: usize,
+    buffer: *mut u16,
+    buffer_words: usize,
+    out: *mut u64,
+    out_len: usize,
+) -> usize {
+    let text = std::slice::from_raw_parts(text, text_bytes);
+    let buffer = std::slice::from_raw_parts_mut(buffer, buffer_words);
+    let out = std::slice::from_raw_parts_mut(out, out_len);
+    tell(out, &read(text, buffer))
+}
+
+/// # Safety
+/// Each pointer has as many elements behind it as its length says.
+#[no_mangle]
+pub unsafe extern "C" fn plain_rust_write(
+    img: *const u16,
+    img_words: usize,
+    buffer: *mut u8,
+    buffer_bytes: usize,
+    out: *mut u64,
+    out_len: usize,
+) -> usize {
+    let img = std::slice::from_raw_parts(img, img_words);
+    let buffer = std::slice::from_raw_parts_mut(buffer, buffer_bytes);
+    let out = std::slice::from_raw_parts_mut(out, out_len);
+    tell(out, &write(img, buffer))
+}
