@@ -50,12 +50,18 @@ module _ (img : List ℕ) (good : shape img ≡ Good) where
       let b = and-then-good _ _ (row _ _ (scanner .0) r l) in
       ltb-true _ _ (rule-good _ _ (and-then-good _ _ (b .1) .1))
 
-  -- Each range ends where it begins or later, and above the one before it.
-  pub good-range : (r : ℕ) → r < ranges img → lo img r ≤ hi img r
+  -- Each range ends where it begins or later, within the bytes, and above the one before it.
+  range-ends : (r : ℕ) → r < ranges img → (leb (lo img r) (hi img r) ≡ true) × (leb (hi img r) 255 ≡ true)
   unfolding rangeRule
-  good-range r l =
+  range-ends r l =
       let b = and-then-good _ _ (row _ _ (scanner .0) r l) in
-      leb-true _ _ (both (leb (lo img r) (hi img r)) _ (rule-good _ _ (and-then-good _ _ (b .1) .0)) .0)
+      both (leb (lo img r) (hi img r)) (leb (hi img r) 255) (rule-good _ _ (and-then-good _ _ (b .1) .0))
+
+  pub good-range : (r : ℕ) → r < ranges img → lo img r ≤ hi img r
+  good-range r l = leb-true _ _ (range-ends r l .0)
+
+  pub good-byte : (r : ℕ) → r < ranges img → hi img r ≤ 255
+  good-byte r l = leb-true _ _ (range-ends r l .1)
 
   pub good-above : (r : ℕ) → r + 1 < ranges img → hi img r < lo img (r + 1)
   unfolding rangeRule abovePrevious

@@ -1,55 +1,58 @@
 use borrow.Author.Needs.{needs}
-use mathlib.Core.Path.{_≡_, refl, sym, _∙_}
-use Prim.Native.Nat.{ℕ, _+_, _≤_, _<_, _-_}
+use mathlib.Core.Path.{_≡_, refl, sym, ap, _∙_}
+use Prim.Native.Nat.{ℕ, _+_, _<_, _≤_, _-_}
 use native.Mathlib.Omega.{arith}
-use native.Mathlib.Nat.{not-suc-le-zero, sub-zero}
-use borrow.Author.Count.{below-more}
-use lib.ListN.{length, getD, length-set}
-use lib.Seq.{getD-set-same, getD-set-other}
-use Rattle.pack.specs.Image.{ranges, hi, classIn, classOf}
+use lib.ListN.{length, getD}
+use Rattle.pack.specs.Image.{ranges, lo, hi, classIn}
+use Rattle.pack.proofs.Good.{range-class, good-range, good-byte}
+use Rattle.scan.specs.Classed.{Filled}
+use Rattle.scan.proofs.Ranges.{filled-more, nothing-yet}
 use Rattle.scan.proofs.classes.class_row.Statement.{statement}
 use Rattle.scan.proofs.classes.class_row.Tie as tie
 
 abbrev Inv-loop : tie.InvT-loop
-Inv-loop img row₀ r₀ b₀ row r b =
-    (b ≤ 256) × (length row ≡ 256) × (r ≤ ranges img) × (r < ranges img → b ≤ hi img r + 1)
-    × ((c : ℕ) → b ≤ c → classOf img c ≡ classIn img c (ranges img - r) r) × ((k : ℕ) → k < b → getD row k 0 ≡ classOf img k)
+Inv-loop img n row₀ r₀ row r = (r ≤ n) × (n ≡ ranges img) × (length row ≡ 256) × ((b : ℕ) → b < 256 → getD row b 0 ≡ classIn img b r 0)
 
 abbrev μ-loop : tie.MeasureT-loop
-μ-loop img row₀ r₀ b₀ row r b = 256 - b
+μ-loop img n row₀ r₀ row r = n - r
 
 loop-holds : tie.Need-loop-holds Inv-loop μ-loop
-loop-holds c = (omega arith, refl, omega arith, λ l. omega arith, λ d l. rw sub-zero, λ k l. absurd (not-suc-le-zero l))
+loop-holds c = (omega arith, c .ranges .ensures, refl, λ b l. nothing-yet _ b l)
 
-range-for-requires : tie.Need-range-for-requires Inv-loop μ-loop
-range-for-requires c κs =
-    let v = c .before .loop .inv in
-    let s = c .before .before .before in
-    (s .pre .0, (s .pre .1, (v .2, v .3)))
+cast-fill : tie.Need-cast-fill Inv-loop μ-loop
+cast-fill c =
+    let l = c .before .before .before .before .before in
+    let s = l .before .before .before in
+    omega (arith, c .range-class .ensures, range-class _ (s .pre .1) (l .loop .r) (omega arith))
 
-class-in-requires : tie.Need-class-in-requires Inv-loop μ-loop
-class-in-requires c κs =
-    let s = c .before .before .before .before in
-    (s .pre .0, (s .pre .1, (c .range-for .ensures .within, c .range-for .ensures .ahead)))
+fill-requires : tie.Need-fill-requires Inv-loop μ-loop
+fill-requires c κs =
+    let l = c .before .before .before .before .before in
+    let s = l .before .before .before in (
+      omega (arith, c .before .hi .ensures, c .before .before .lo .ensures, good-range _ (s .pre .1) (l .loop .r) (omega arith)),
+      omega (arith, c .before .hi .ensures, good-byte _ (s .pre .1) (l .loop .r) (omega arith)),
+    )
 
 loop-again : tie.Need-loop-again Inv-loop μ-loop
 loop-again c =
-    let f = c .before .range-for .ensures in
-    let l = c .before .before .before .loop in
-    let v = l .inv in (
+    let k = c .before in
+    let l = k .before .before .before .before .before in
+    let v = l .loop .inv in
+    let s = l .before .before .before in
+    let f = rw (k .before .before .lo .ensures, k .before .hi .ensures) at (c .fill .ensures) in (
       omega arith,
-      simp length-set (v .1),
-      f .within,
-      λ k. omega (arith, f .ahead k),
-      λ d k. v .4 d (omega arith) ∙ f .same d (omega arith),
-      below-more _ _ (λ k h. getD-set-other (l .row) _ k _ 0 (λ e. omega arith) ∙ v .5 k h)
-          (getD-set-same (l .row) _ _ 0 (omega arith) ∙ c .class-in .ensures ∙ sym (v .4 (l .b) (omega arith) ∙ f .same (l .b) (omega arith))),
+      v .1,
+      c .fill .ensures .size (v .2),
+      λ b h. filled-more _ (s .pre .1) (l .loop .r) (omega arith) (v .2) f (k .range-class .ensures) b (v .3 b h),
     )
 
 returns : tie.Need-returns Inv-loop μ-loop
-returns c = let v = c .before .loop .inv in record { size = v .1; each = λ b h. v .5 b (omega arith) }
+returns c =
+    let v = c .before .loop .inv in
+    let all : c .before .loop .r ≡ ranges (c .before .before .before .before .args .img .now) = omega arith in
+    record { size = v .2; each = λ b h. v .3 b h ∙ ap (λ (k : ℕ). classIn (c .before .before .before .before .args .img .now) b k 0) all }
 
 pub class-row-spec : {M : Type 1} → statement M
 class-row-spec =
     tie.close
-    (tie.spec Inv-loop μ-loop loop-holds range-for-requires class-in-requires (λ c. search needs) (λ c. search needs) (λ c. search needs) loop-again returns)
+    (tie.spec Inv-loop μ-loop (λ c κs. search needs) loop-holds (λ c κs. search needs) (λ c κs. search needs) (λ c κs. search needs) cast-fill fill-requires (λ c. search needs) (λ c. search needs) loop-again returns)
