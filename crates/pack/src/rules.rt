@@ -418,13 +418,15 @@ fn wide(x: u16) -> usize
     x as usize
 }
 
-// The action table.
+// The action table. Rows of few columns are walked at once: the quick pass pays only where a row is long.
 pub fn acts(img: &[u16]) -> Verdict
     requires { ⌜ Laid (now img) ⌝ }
     ensures { λ r. ⌜ r ≡ each (rowRule (now (img .entry)) Act) (states (now (img .entry))) 0 ⌝ }
 {
-    if quick::acts(img) {
-        return Verdict::Good;
+    if 16 <= image::terminals(img) {
+        if quick::acts(img) {
+            return Verdict::Good;
+        }
     }
     rows(img, Table::Act, image::states(img))
 }
