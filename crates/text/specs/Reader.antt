@@ -51,7 +51,7 @@ unfoldable pub zeros : ℕ → List ℕ
 zeros zero = []
 zeros (suc n) = 0 ∷ zeros n
 
--- `lhs,len` "and its len symbols", as 16 words, "unused ones 0": len first, then the byte after it, which depends on it.
+-- What stands behind lhs: len "and its len symbols", as 15 words, "unused ones 0". The byte after len depends on it.
 unfoldable pub symbolsOf : List ℕ → List ℕ → Line
 symbolsOf words bytes =
     let size = readField Number bytes in
