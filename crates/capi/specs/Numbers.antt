@@ -4,10 +4,10 @@ use mathlib.Core.List.{List, [], _∷_, _++_}
 use Prim.Native.Nat.{ℕ}
 use lib.Dec.{ltb}
 use lib.ListN.{length, drop}
-use Rattle.pack.specs.declared.Verdict.{Verdict}
-use Rattle.pack.specs.Shape.{codeOf, placeOf}
+use Rattle.shape.specs.declared.Verdict.{Verdict}
+use Rattle.shape.specs.Shape.{codeOf, placeOf}
 use Rattle.scan.specs.declared.Scanned.{Scanned}
-use Rattle.text.specs.Delivery.{Delivery}
+use Rattle.numbers.specs.Front.{Delivery}
 
 -- So many numbers are told, or none where there is no room.
 unfoldable pub told : List ℕ → ℕ → ℕ

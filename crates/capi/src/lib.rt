@@ -3,10 +3,10 @@
 // there, and the answer is 0.
 ghost use mathlib.Core.Path.{_≡_};
 ghost use mathlib.Core.List.{[], _∷_};
-ghost use Rattle.pack.specs.Shape.{shape};
+ghost use Rattle.shape.specs.Shape.{shape};
 ghost use Rattle.scan.specs.Scan.{scanAlone};
 ghost use Rattle.capi.specs.Numbers.{told, written, ofShape, ofScan, ofText};
-ghost use Rattle.text.specs.Delivery.{bufferAfter};
+ghost use Rattle.numbers.specs.Front.{bufferAfter};
 ghost use Rattle.text.specs.Reader.{read};
 ghost use Rattle.text.specs.Writer.{write};
 
@@ -45,8 +45,8 @@ pub extern "C" fn zhg_shape(img: &[u16], out: &mut [u64]) -> usize
     ensures { λ r. ⌜ r ≡ told (now (out .entry)) 2 ⌝ }
     ensures { λ r. ⌜ now (out .exit) ≡ written (now (out .entry)) (ofShape (shape (now (img .entry)))) ⌝ }
 {
-    let v = pack::shape(img);
-    put2(out, pack::code_of(v) as u64, pack::place_of(v) as u64)
+    let v = shape::shape(img);
+    put2(out, shape::code_of(v) as u64, shape::place_of(v) as u64)
 }
 
 // The scan called by itself: code, place, set, length and moves.

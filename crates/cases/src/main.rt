@@ -52,9 +52,9 @@ fn join(raw: &[u8], img: &mut [u16]) {
 }
 
 fn shape(img: &[u16]) {
-    let v = pack::shape(img);
-    print(pack::code_of(v) as u64, b',');
-    print(pack::place_of(v) as u64, b'\n');
+    let v = shape::shape(img);
+    print(shape::code_of(v) as u64, b',');
+    print(shape::place_of(v) as u64, b'\n');
 }
 
 fn scan(img: &[u16], text: &[u8], head: &[u8; 40]) {

@@ -2,11 +2,11 @@
 use mathlib.Core.Bool.{Bool, true, false}
 use mathlib.Core.List.{List}
 use Prim.Native.Nat.{ℕ, zero, suc, _+_}
-use Rattle.pack.specs.declared.Verdict.{Verdict}
-use Rattle.pack.specs.declared.Verdict.the-variants.{Good, Wrong}
-use Rattle.pack.specs.Numbers.{done, wrongShape, checkFails}
+use Rattle.shape.specs.declared.Verdict.{Verdict}
+use Rattle.shape.specs.declared.Verdict.the-variants.{Good, Wrong}
+use Rattle.numbers.specs.Codes.{done, wrongShape, checkFails}
 use Rattle.pack.specs.Image.{productions, states, scanStates}
-use Rattle.pack.specs.Shape.{shape}
+use Rattle.shape.specs.Shape.{shape}
 use Rattle.checker.specs.declared.Checked.{Checked}
 use Rattle.checker.specs.Tests.{k1, k2, k3, k4, k5, k6}
 

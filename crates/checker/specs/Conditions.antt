@@ -5,9 +5,9 @@ use mathlib.Core.Bool.{true}
 use mathlib.Core.List.{List}
 use Prim.Native.Nat.{ℕ, suc, _+_, _*_, _-_, _<_}
 use Rattle.sets.specs.Sets.{meet, several}
-use Rattle.pack.specs.declared.Verdict.the-variants.{Good}
+use Rattle.shape.specs.declared.Verdict.the-variants.{Good}
 use Rattle.pack.specs.Image.{terminals, productions, states, scanStates, groups, lhs, len, symbol, act, goto, acc, groupSet, validSet, startSymbol}
-use Rattle.pack.specs.Shape.{shape}
+use Rattle.shape.specs.Shape.{shape}
 use Rattle.scan.specs.Tables.{K1, K2}
 use Rattle.checker.specs.Edges.{Edge, Back}
 

@@ -5,13 +5,13 @@ use Prim.Native.Nat.{ℕ, zero, suc, _+_, _-_, _/_, min}
 use lib.Dec.{eqb, leb, ltb}
 use lib.ListN.{length, getD, drop}
 use Rattle.sets.specs.Sets.{isEmpty, less, single, lowest}
-use Rattle.pack.specs.declared.Verdict.{Verdict}
-use Rattle.pack.specs.declared.Verdict.the-variants.{Good, Wrong}
+use Rattle.shape.specs.declared.Verdict.{Verdict}
+use Rattle.shape.specs.declared.Verdict.the-variants.{Good, Wrong}
 use Rattle.pack.specs.declared.Action.{Action}
 use Rattle.pack.specs.declared.Action.the-variants.{Error, Accept, Shift, Reduce}
-use Rattle.pack.specs.Numbers.{done, wrongShape, queryTooLong, noTerminal, unexpected, noGroup, stuck, treeFull, stackFull, allowanceUsedUp, longestText, mostRecords, mostStates}
+use Rattle.numbers.specs.Codes.{done, wrongShape, queryTooLong, noTerminal, unexpected, noGroup, stuck, treeFull, stackFull, allowanceUsedUp, longestText, mostRecords, mostStates}
 use Rattle.pack.specs.Image.{layout, validSet, allButEndAndLayout, act, actionOf, goto, lhs, len, ofNonterminal, endOfText}
-use Rattle.pack.specs.Shape.{shape}
+use Rattle.shape.specs.Shape.{shape}
 use Rattle.scan.specs.declared.Stop.{Stop}
 use Rattle.scan.specs.Scan.{scan}
 use Rattle.scan.specs.Token.{terminalOf}

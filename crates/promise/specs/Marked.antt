@@ -6,7 +6,7 @@ use Prim.Native.Nat.{ℕ, _+_, _*_, _-_}
 use lib.Dec.{eqb}
 use lib.ListN.{length, replicate}
 use Rattle.text.specs.Bytes.{bytes}
-use Rattle.pack.specs.Numbers.{greatestAllowance}
+use Rattle.numbers.specs.Codes.{greatestAllowance}
 use Rattle.parse.specs.declared.Parsed.{Parsed}
 use Rattle.parse.specs.Parse.{parse, treeAfter}
 use Rattle.checker.specs.declared.Checked.{Checked}

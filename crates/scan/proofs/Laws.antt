@@ -11,11 +11,11 @@ use lib.Seq.{drop-cons, take-all}
 use lib.Bits.{bitAnd}
 use borrow.Author.Tests.{eq-eqb, ne-eqb, le-leb, lt-leb, lt-ltb, le-ltb}
 use Rattle.sets.specs.Sets.{isEmpty}
-use Rattle.pack.specs.declared.Verdict.{Verdict}
-use Rattle.pack.specs.Numbers.{queryTooLong, wrongShape}
+use Rattle.shape.specs.declared.Verdict.{Verdict}
+use Rattle.numbers.specs.Codes.{queryTooLong, wrongShape}
 use Rattle.pack.specs.Image.{classOf, move, acc, rej, poss, allButEnd}
-use Rattle.pack.specs.Shape.{isWrong, placeOf, shape}
-use Rattle.pack.proofs.Laws.{is-good, is-wrong}
+use Rattle.shape.specs.Shape.{isWrong, placeOf, shape}
+use Rattle.shape.proofs.Laws.{is-good, is-wrong}
 use Rattle.scan.specs.declared.Remembered.{Remembered}
 use Rattle.scan.specs.declared.Stop.{Stop}
 use Rattle.scan.specs.Scan.{remember, stopped, usedUp, scanFrom, scan, codeOf, refused, scanAlone}

@@ -9,10 +9,10 @@ use native.Mathlib.Omega.{arith}
 use lib.Dec.{leb, ltb}
 use lib.ListN.{length, getD, replicate, getD-replicate}
 use borrow.Author.Tests.{le-leb, lt-leb, leb-true, leb-false, ltb-true, ltb-false}
-use Rattle.pack.specs.declared.Verdict.the-variants.{Good}
+use Rattle.shape.specs.declared.Verdict.the-variants.{Good}
 use Rattle.pack.specs.Image.{ranges, lo, hi, rangeClass, classIn}
-use Rattle.pack.specs.Shape.{shape}
-use Rattle.pack.proofs.Good.{good-range, good-above}
+use Rattle.shape.specs.Shape.{shape}
+use Rattle.shape.proofs.Good.{good-range, good-above}
 use Rattle.scan.specs.Classed.{Filled}
 
 module _ (img : List ℕ) (b : ℕ) where

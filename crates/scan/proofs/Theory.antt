@@ -11,10 +11,10 @@ use lib.Bits.{bitAnd, and-le-l}
 use borrow.Author.Tests.{leb-true, leb-false, eqb-true, eqb-false}
 use Rattle.sets.specs.Sets.{has, isEmpty}
 use Rattle.sets.proofs.Laws.{has-lt, has-none, has-and, ext}
-use Rattle.pack.specs.declared.Verdict.the-variants.{Good}
+use Rattle.shape.specs.declared.Verdict.the-variants.{Good}
 use Rattle.pack.specs.Image.{terminals, scanStates, classOf, move, acc, rej, poss}
-use Rattle.pack.specs.Shape.{shape}
-use Rattle.pack.proofs.Good.{good-laid, good-move, good-class, good-acc, good-rej, good-poss}
+use Rattle.shape.specs.Shape.{shape}
+use Rattle.shape.proofs.Good.{good-laid, good-move, good-class, good-acc, good-rej, good-poss}
 use Rattle.scan.specs.declared.Remembered.{Remembered}
 use Rattle.scan.specs.declared.Stop.{Stop}
 use Rattle.scan.specs.Scan.{nothing, remember, stopped, usedUp, scanFrom, scan}

@@ -5,11 +5,11 @@ use Prim.Native.Nat.{ℕ, zero, suc, _+_, _-_, min}
 use lib.Dec.{leb, ltb}
 use lib.ListN.{length, drop}
 use Rattle.sets.specs.Sets.{meet, isEmpty}
-use Rattle.pack.specs.declared.Verdict.{Verdict}
-use Rattle.pack.specs.declared.Verdict.the-variants.{Good, Wrong}
-use Rattle.pack.specs.Numbers.{done, wrongShape, queryTooLong, allowanceUsedUp, longestText}
+use Rattle.shape.specs.declared.Verdict.{Verdict}
+use Rattle.shape.specs.declared.Verdict.the-variants.{Good, Wrong}
+use Rattle.numbers.specs.Codes.{done, wrongShape, queryTooLong, allowanceUsedUp, longestText}
 use Rattle.pack.specs.Image.{classOf, move, acc, rej, poss, allButEnd}
-use Rattle.pack.specs.Shape.{shape}
+use Rattle.shape.specs.Shape.{shape}
 use Rattle.scan.specs.declared.Remembered.{Remembered}
 use Rattle.scan.specs.declared.Stop.{Stop}
 use Rattle.scan.specs.declared.Scanned.{Scanned}

@@ -3,9 +3,9 @@ use pack::image;
 ghost use mathlib.Core.Path.{_≡_};
 ghost use Prim.Native.Nat.{_<_, _≤_};
 ghost use lib.ListN.{getD};
-ghost use Rattle.pack.specs.declared.Verdict.the-variants.{Good};
+ghost use Rattle.shape.specs.declared.Verdict.the-variants.{Good};
 ghost use Rattle.pack.specs.Laid.{Laid};
-ghost use Rattle.pack.specs.Shape.{shape};
+ghost use Rattle.shape.specs.Shape.{shape};
 ghost use Rattle.scan.specs.Classed.{Classed, Filled};
 
 fn wide(x: u8) -> usize

@@ -2,10 +2,10 @@
 ghost use mathlib.Core.Path.{_≡_};
 ghost use Prim.Native.Nat.{ℕ, _+_, _<_, _≤_, min};
 ghost use lib.ListN.{length};
-ghost use Rattle.pack.specs.declared.Verdict.the-variants.{Good};
+ghost use Rattle.shape.specs.declared.Verdict.the-variants.{Good};
 ghost use Rattle.pack.specs.Image.{scanStates, move, classOf, allButEnd};
 ghost use Rattle.pack.specs.Laid.{Laid};
-ghost use Rattle.pack.specs.Shape.{shape};
+ghost use Rattle.shape.specs.Shape.{shape};
 ghost use Rattle.scan.specs.Classed.{Classed};
 ghost use Rattle.scan.specs.Scan.{remember, scan, codeOf, refused, scanAlone};
 use pack::image;
@@ -140,9 +140,9 @@ pub fn scan(img: &[u16], text: &[u8], start: usize, set: u64, allowance: u32) ->
     if 65535 < text.len() {
         return refusal(6, 0);
     }
-    let v = pack::shape(img);
-    if pack::is_wrong(v) {
-        return refusal(4, pack::place_of(v));
+    let v = shape::shape(img);
+    if shape::is_wrong(v) {
+        return refusal(4, shape::place_of(v));
     }
     let place = within(start, text.len());
     let row = classes::class_row(img);

@@ -9,12 +9,12 @@ use native.Mathlib.Omega.{arith}
 use lib.ListN.{length, getD, take, drop, set, length-drop}
 use lib.Seq.{drop-cons, take-suc, take-all, set-at, length-take-le, sets-eq}
 use borrow.Author.Tests.{lt-ltb, le-ltb}
-use Rattle.pack.specs.declared.Verdict.{Verdict}
-use Rattle.pack.specs.declared.Verdict.the-variants.{Good, Wrong}
-use Rattle.pack.specs.Shape.{andThen, each, sizeRule, headRules, shape}
-use Rattle.text.specs.declared.Answer.{Answer}
+use Rattle.shape.specs.declared.Verdict.{Verdict}
+use Rattle.shape.specs.declared.Verdict.the-variants.{Good, Wrong}
+use Rattle.shape.specs.Shape.{andThen, each, sizeRule, headRules, shape}
+use Rattle.numbers.specs.declared.Answer.{Answer}
 use Rattle.text.specs.declared.Cursor.{Cursor}
-use Rattle.text.specs.Delivery.{deliver, bufferAfter}
+use Rattle.numbers.specs.Front.{deliver, bufferAfter}
 use Rattle.text.specs.Reader.{readAll, judge, read}
 use Rattle.text.specs.Reader.Lines.{wrongFrom, all}
 use Rattle.text.specs.Writer.{textOf, writeGood, write}

@@ -9,10 +9,10 @@ use lib.Dec.{leb, ltb}
 use lib.ListN.{length, take}
 use lib.Seq.{getD-take}
 use borrow.Author.Tests.{le-leb, lt-leb, lt-ltb, le-ltb, leb-true, ltb-true}
-use Rattle.pack.specs.declared.Verdict.{Verdict}
-use Rattle.pack.specs.declared.Verdict.the-variants.{Good, Wrong}
+use Rattle.shape.specs.declared.Verdict.{Verdict}
+use Rattle.shape.specs.declared.Verdict.the-variants.{Good, Wrong}
 use Rattle.pack.specs.Image.{word, leastSize, greatestSize, terminals, nonterminals, productions, states, scanStates, classes, ranges, groups}
-use Rattle.pack.specs.Shape.{rule, each, sizeRule}
+use Rattle.shape.specs.Shape.{rule, each, sizeRule}
 use Rattle.text.specs.Form.{rowWidth, tablesOf}
 use Rattle.text.specs.Reader.{limited}
 use Rattle.text.specs.Reader.Line.{wrong, took}

@@ -18,9 +18,9 @@ use Rattle.text.specs.declared.Kind.the-variants.{Number, Set}
 use Rattle.text.specs.Fields.{none, isDigit, digitsFrom, numberIn, readNumber, hexDigit, hexFrom, readSet, readField, wordsOf}
 use Rattle.text.specs.declared.Row.{Row}
 use Rattle.text.specs.declared.Row.the-variants.{Numbers, Sets, Production, Group}
-use Rattle.pack.specs.declared.Verdict.{Verdict}
-use Rattle.pack.specs.declared.Verdict.the-variants.{Good, Wrong}
-use Rattle.pack.specs.Shape.{each, sizeRule}
+use Rattle.shape.specs.declared.Verdict.{Verdict}
+use Rattle.shape.specs.declared.Verdict.the-variants.{Good, Wrong}
+use Rattle.shape.specs.Shape.{each, sizeRule}
 use Rattle.text.specs.Form.{Table, newline, comma, after, packLine, sizes, rowWidth, tablesOf}
 use Rattle.text.specs.Reader.{Line, Lines, thenRead, expect, fieldThen, fields, zeros, symbolsOf, readRow, thenLines, asLine, readLines, readTables, limited, readHead, ended, readAll}
 use Rattle.text.specs.Reader.Line.{wrong, took}

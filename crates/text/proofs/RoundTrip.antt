@@ -9,14 +9,14 @@ use lib.Dec.{ltb}
 use lib.ListN.{length, take}
 use lib.Seq.{take-length, getD-take, length-take-le}
 use borrow.Author.Tests.{lt-ltb, le-ltb, ltb-false, leb-true, eqb-true}
-use Rattle.pack.specs.declared.Verdict.{Verdict}
-use Rattle.pack.specs.declared.Verdict.the-variants.{Good, Wrong}
+use Rattle.shape.specs.declared.Verdict.{Verdict}
+use Rattle.shape.specs.declared.Verdict.the-variants.{Good, Wrong}
 use Rattle.pack.specs.Image.{word, productions, prodStart, layoutAt, len, symbol}
-use Rattle.pack.specs.Shape.{each, sizeRule, symbolRule, prodRule, headRules, parserRules, shape}
-use Rattle.pack.proofs.Laws.{rule-good, and-then-good, each-good, each-all}
-use Rattle.pack.proofs.Good.{good-laid}
+use Rattle.shape.specs.Shape.{each, sizeRule, symbolRule, prodRule, headRules, parserRules, shape}
+use Rattle.shape.proofs.Laws.{rule-good, and-then-good, each-good, each-all}
+use Rattle.shape.proofs.Good.{good-laid}
 use Rattle.text.specs.declared.Row.the-variants.{Numbers, Sets, Production, Group}
-use Rattle.text.specs.Delivery.{deliver}
+use Rattle.numbers.specs.Front.{deliver}
 use Rattle.text.specs.Form.{packLine, sizes, tablesOf, rowWidth}
 use Rattle.text.specs.Reader.{Lines, thenRead, thenLines, asLine, readTables, limited, readHead, ended, readAll, judge, read}
 use Rattle.text.specs.Reader.Line.{took}

@@ -21,10 +21,10 @@ use Rattle.text.specs.Reader.{Line, Lines, thenRead, expect, fieldThen, 
 use Rattle.text.specs.Reader.Line.{wrong, took}
 use Rattle.text.specs.Reader.Lines.{wrongFrom, all}
 use Rattle.text.specs.Writer.{fieldsText, rowText, linesText, tablesText, textOf}
-use Rattle.pack.specs.declared.Verdict.{Verdict}
-use Rattle.pack.specs.declared.Verdict.the-variants.{Good, Wrong}
+use Rattle.shape.specs.declared.Verdict.{Verdict}
+use Rattle.shape.specs.declared.Verdict.the-variants.{Good, Wrong}
 use Rattle.pack.specs.Image.{layoutAt}
-use Rattle.pack.specs.Shape.{each, sizeRule}
+use Rattle.shape.specs.Shape.{each, sizeRule}
 use Rattle.text.specs.Steps.{tableWords, tablesFor, sizesIn}
 use Rattle.text.proofs.Limits.{tables-are, sizes-take}
 use Rattle.text.proofs.ReadLaws.{field-none, field-then, symbols-none, symbols-much, symbols-go}

@@ -1,5 +1,4 @@
 pub mod Bytes
-pub mod Delivery
 pub mod Fields
 pub mod Form
 pub mod Reader

@@ -5,14 +5,14 @@ use mathlib.Core.List.{List, [], _∷_, _++_}
 use Prim.Native.Nat.{ℕ, zero, suc, _-_}
 use lib.Dec.{eqb, leb, ltb}
 use lib.ListN.{length, drop}
-use Rattle.pack.specs.declared.Verdict.the-variants.{Good, Wrong}
-use Rattle.pack.specs.Numbers.{notTheForm, textTooLong, wrongShape, longestText}
-use Rattle.pack.specs.Shape.{shape, each, sizeRule}
+use Rattle.shape.specs.declared.Verdict.the-variants.{Good, Wrong}
+use Rattle.numbers.specs.Codes.{notTheForm, textTooLong, wrongShape, longestText}
+use Rattle.shape.specs.Shape.{shape, each, sizeRule}
 use Rattle.text.specs.declared.Kind.{Kind}
 use Rattle.text.specs.declared.Kind.the-variants.{Number, Set}
 use Rattle.text.specs.declared.Row.{Row}
 use Rattle.text.specs.declared.Row.the-variants.{Numbers, Sets, Production, Group}
-use Rattle.text.specs.Delivery.{Delivery, refuse, deliver}
+use Rattle.numbers.specs.Front.{Delivery, refuse, deliver}
 use Rattle.text.specs.Fields.{readField, wordsOf}
 use Rattle.text.specs.Form.{Table, newline, comma, after, packLine, sizes, tablesOf}
 

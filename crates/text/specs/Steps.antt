@@ -6,15 +6,15 @@ use mathlib.Core.List.{List, [], _∷_, _++_}
 use Prim.Native.Nat.{ℕ, _+_, _*_, _≤_, min}
 use lib.ListN.{length, take, drop}
 use lib.Seq.{sets}
-use Rattle.pack.specs.declared.Verdict.{Verdict}
-use Rattle.pack.specs.declared.Verdict.the-variants.{Good, Wrong}
+use Rattle.shape.specs.declared.Verdict.{Verdict}
+use Rattle.shape.specs.declared.Verdict.the-variants.{Good, Wrong}
 use Rattle.pack.specs.Image.{terminals, nonterminals, productions, states, scanStates, classes, ranges, groups}
-use Rattle.text.specs.declared.Answer.{Answer}
+use Rattle.numbers.specs.declared.Answer.{Answer}
 use Rattle.text.specs.declared.Cursor.{Cursor}
 use Rattle.text.specs.declared.Sizes.{Sizes}
 use Rattle.text.specs.declared.Row.the-variants.{Numbers, Sets, Production, Group}
 use Rattle.text.specs.Bytes.{bytes}
-use Rattle.text.specs.Delivery.{Delivery, bufferAfter}
+use Rattle.numbers.specs.Front.{Delivery, bufferAfter}
 use Rattle.text.specs.Form.{Table, rowWidth}
 use Rattle.text.specs.Reader.{Line, Lines}
 use Rattle.text.specs.Reader.Line.{wrong, took}

@@ -4,15 +4,15 @@ use mathlib.Core.List.{List, [], _∷_, _++_}
 use Prim.Native.Nat.{ℕ, zero, suc, _+_, _*_}
 use lib.Dec.{ltb}
 use lib.ListN.{length, getD}
-use Rattle.pack.specs.declared.Verdict.the-variants.{Good, Wrong}
-use Rattle.pack.specs.Numbers.{textTooLong, wrongShape, longestText}
+use Rattle.shape.specs.declared.Verdict.the-variants.{Good, Wrong}
+use Rattle.numbers.specs.Codes.{textTooLong, wrongShape, longestText}
 use Rattle.pack.specs.Image.{layoutAt}
-use Rattle.pack.specs.Shape.{shape}
+use Rattle.shape.specs.Shape.{shape}
 use Rattle.text.specs.declared.Kind.{Kind}
 use Rattle.text.specs.declared.Kind.the-variants.{Number, Set}
 use Rattle.text.specs.declared.Row.{Row}
 use Rattle.text.specs.declared.Row.the-variants.{Numbers, Sets, Production, Group}
-use Rattle.text.specs.Delivery.{Delivery, refuse, deliver}
+use Rattle.numbers.specs.Front.{Delivery, refuse, deliver}
 use Rattle.text.specs.Fields.{fieldText, widthOf}
 use Rattle.text.specs.Form.{Table, newline, comma, after, packLine, sizes, tablesOf, rowWidth}
 

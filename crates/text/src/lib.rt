@@ -1,11 +1,12 @@
 // Pack text to image, and image to pack text.
-use pack::Verdict;
+use numbers::Answer;
+use shape::Verdict;
 ghost use mathlib.Core.Path.{_≡_};
 ghost use mathlib.Core.List.{[]};
 ghost use lib.ListN.{length};
-ghost use Rattle.pack.specs.declared.Verdict.the-variants.{Good};
-ghost use Rattle.pack.specs.Shape.{each, sizeRule};
-ghost use Rattle.text.specs.Delivery.{bufferAfter, deliver};
+ghost use Rattle.shape.specs.declared.Verdict.the-variants.{Good};
+ghost use Rattle.shape.specs.Shape.{each, sizeRule};
+ghost use Rattle.numbers.specs.Front.{bufferAfter, deliver};
 ghost use Rattle.text.specs.Reader.{judge, read};
 ghost use Rattle.text.specs.Reader.Lines.{all};
 ghost use Rattle.text.specs.Writer.{writeGood, write};
@@ -33,12 +34,6 @@ pub enum Row {
 pub struct Field {
     pub value: u64,
     pub used: usize,
-}
-
-// What reading and writing give: the code, and the number that document 01's table has for it.
-pub struct Answer {
-    pub code: u8,
-    pub number: usize,
 }
 
 // How far the reader is: whether all was right so far, the place in the text, and the words of the image so far.
@@ -83,7 +78,7 @@ fn copied(img: &[u16], buffer: &mut [u16]) -> Answer
 fn judged(img: &[u16], buffer: &mut [u16]) -> Answer
     ensures { λ r. ⌜ Delivers (judge 0 (length (now (buffer .entry))) (all (now (img .entry)) [])) (now (buffer .entry)) (now (buffer .exit)) r ⌝ }
 {
-    let verdict = pack::shape(img);
+    let verdict = shape::shape(img);
     match verdict {
         Verdict::Wrong(place) => Answer {
             code: 4,
@@ -143,7 +138,7 @@ pub fn write(img: &[u16], buffer: &mut [u8]) -> Answer
     ensures { λ r. ⌜ r ≡ write (now (img .entry)) (now (buffer .entry)) .answer ⌝ }
     ensures { λ r. ⌜ now (buffer .exit) ≡ bufferAfter (now (buffer .entry)) (write (now (img .entry)) (now (buffer .entry))) ⌝ }
 {
-    let verdict = pack::shape(img);
+    let verdict = shape::shape(img);
     match verdict {
         Verdict::Wrong(place) => Answer {
             code: 4,

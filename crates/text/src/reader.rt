@@ -10,7 +10,7 @@ ghost use mathlib.Core.Path.{_≡_};
 ghost use mathlib.Core.List.{List, [], _∷_, _++_};
 ghost use Prim.Native.Nat.{ℕ, _+_, _*_, _-_, _<_, _≤_};
 ghost use lib.ListN.{length, take, drop};
-ghost use Rattle.pack.specs.Shape.{each, sizeRule};
+ghost use Rattle.shape.specs.Shape.{each, sizeRule};
 ghost use Rattle.text.specs.Fields.{digitsFrom, readNumber, hexDigit, readSet, wordsOf, widthOf};
 ghost use Rattle.text.specs.Form.{newline, after, rowWidth};
 ghost use Rattle.text.specs.Reader.{thenRead, expect, fieldThen, fields, zeros, symbolsOf, readRow, thenLines, asLine, readLines, readTables, limited, readHead, ended, readAll};

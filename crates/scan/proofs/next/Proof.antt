@@ -1,6 +1,6 @@
 use borrow.Author.Needs.{needs}
 use mathlib.Core.Path.{_≡_, sym, ap, _∙_}
-use Rattle.pack.proofs.Good.{good-move, good-class}
+use Rattle.shape.proofs.Good.{good-move, good-class}
 use Rattle.scan.proofs.next.Statement.{statement}
 use Rattle.scan.proofs.next.Tie as tie
 

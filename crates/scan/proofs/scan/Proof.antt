@@ -1,8 +1,8 @@
 use borrow.Author.Needs.{needs}
 use mathlib.Core.Path.{_≡_, sym, ap, _∙_}
 use native.Mathlib.Omega.{arith}
-use Rattle.pack.proofs.Laws.{is-good}
-use Rattle.pack.proofs.Good.{good-laid}
+use Rattle.shape.proofs.Laws.{is-good}
+use Rattle.shape.proofs.Good.{good-laid}
 use Rattle.scan.proofs.Laws.{rest-of, alone-long, alone-wrong, alone-scan}
 use Rattle.scan.proofs.scan.Statement.{statement}
 use Rattle.scan.proofs.scan.Tie as tie

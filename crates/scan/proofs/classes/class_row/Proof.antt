@@ -4,7 +4,7 @@ use Prim.Native.Nat.{ℕ, _+_, _<_, _≤_, _-_}
 use native.Mathlib.Omega.{arith}
 use lib.ListN.{length, getD}
 use Rattle.pack.specs.Image.{ranges, lo, hi, classIn}
-use Rattle.pack.proofs.Good.{range-class, good-range, good-byte}
+use Rattle.shape.proofs.Good.{range-class, good-range, good-byte}
 use Rattle.scan.specs.Classed.{Filled}
 use Rattle.scan.proofs.Ranges.{filled-more, nothing-yet}
 use Rattle.scan.proofs.classes.class_row.Statement.{statement}

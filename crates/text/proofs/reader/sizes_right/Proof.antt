@@ -3,7 +3,7 @@ use mathlib.Core.Path.{_≡_, refl, sym, _∙_}
 use borrow.Author.Needs.{needs}
 use borrow.Author.Tests.{not-true, not-false}
 use Prim.Native.Nat.{_≤_, _-_}
-use Rattle.pack.specs.Shape.{each, sizeRule}
+use Rattle.shape.specs.Shape.{each, sizeRule}
 use Rattle.text.specs.Steps.{isGood}
 use Rattle.text.proofs.Limits.{each-on, each-stop, each-end}
 use Rattle.text.proofs.reader.sizes_right.Statement.{statement}
