@@ -1,5 +1,5 @@
-pub mod Classed
 pub mod Matching
+pub mod Ready
 pub mod Scan
 pub mod Tables
 pub mod Token
