@@ -130,6 +130,14 @@ len img p = word img (prodAt img p + 1)
 unfoldable pub symbol : List ℕ → ℕ → ℕ → ℕ
 symbol img p i = word img (prodAt img p + 2 + i)
 
+-- The symbols of production p from the i-th on, n of them; its right side is all that it has.
+unfoldable pub symbolsFrom : List ℕ → ℕ → ℕ → ℕ → List ℕ
+symbolsFrom img p zero i = []
+symbolsFrom img p (suc n) i = symbol img p i ∷ symbolsFrom img p n (i + 1)
+
+abbrev pub rightSide : List ℕ → ℕ → List ℕ
+rightSide img p = symbolsFrom img p (len img p) 0
+
 -- "Symbol numbers: terminal t is t, nonterminal n is 64+n." "Terminal 0 is the end of the text. Nonterminal 0 is the start symbol."
 abbrev pub ofNonterminal : ℕ → ℕ
 ofNonterminal n = 64 + n
@@ -200,15 +208,6 @@ classIn img b (suc n) r =
 
 abbrev pub classOf : List ℕ → ℕ → ℕ
 classOf img b = classIn img b (ranges img) 0
-
--- "A parse first fills a row of 256 classes": those of n bytes from b on, and of all bytes. The row is for the code's sake: the
--- definitions below take the class of a byte from `classOf`.
-unfoldable pub classRowFrom : List ℕ → ℕ → ℕ → List ℕ
-classRowFrom img zero b = []
-classRowFrom img (suc n) b = classOf img b ∷ classRowFrom img n (b + 1)
-
-abbrev pub classRow : List ℕ → List ℕ
-classRow img = classRowFrom img 256 0
 
 -- "V(s) is the set of terminals with a non-zero cell in row s": those of n columns from t on, and of all.
 unfoldable pub validFrom : List ℕ → ℕ → ℕ → ℕ → ℕ

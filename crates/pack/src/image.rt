@@ -2,8 +2,9 @@
 ghost use mathlib.Core.Path.{_≡_};
 ghost use Prim.Native.Nat.{ℕ, _+_, _*_, _<_, _≤_};
 ghost use lib.ListN.{length};
-ghost use Rattle.pack.specs.Image.{word, setAt, terminals, nonterminals, productions, states, scanStates, classes, ranges, groups, prodStart, actStart, actAt, gotoStart, classStart, moveStart, scanStart, groupStart, needed, layout, dom, lhs, len, symbol, act, goto, move, lo, hi, rangeClass, acc, rej, poss, groupSet, chosen};
+ghost use Rattle.pack.specs.Image.{word, setAt, terminals, nonterminals, productions, states, scanStates, classes, ranges, groups, prodStart, actStart, actAt, gotoStart, classStart, moveStart, scanStart, groupStart, needed, layout, dom, lhs, len, symbol, act, goto, move, lo, hi, rangeClass, acc, rej, poss, groupSet, chosen, validSet};
 ghost use Rattle.pack.specs.Laid.{Sized, Laid};
+ghost use Rattle.sets.specs.Sets.{single};
 
 fn wide(x: u16) -> usize
     ensures { λ r. ⌜ r ≡ x ⌝ }
@@ -291,4 +292,30 @@ pub fn chosen(img: &[u16], g: usize) -> usize
     ensures { λ r. ⌜ r ≡ chosen (now (img .entry)) g ⌝ }
 {
     word_at(img, group_start(img) + g * 5 + 4)
+}
+
+// The set with terminal t, where its cell is not 0.
+fn with(set: u64, cell: usize, t: usize) -> u64
+    requires { ⌜ (t < 64) × (single t + set < 18446744073709551616) ⌝ }
+    ensures { λ r. ⌜ (cell ≡ 0 → r ≡ set) × ((cell ≡ 0 → ⊥) → r ≡ single t + set) ⌝ }
+{
+    if cell == 0 {
+        return set;
+    }
+    set + (1u64 << t)
+}
+
+// The terminals with a cell that is not 0 in the row of parse state s.
+pub fn valid_set(img: &[u16], s: usize) -> u64
+    requires { ⌜ Laid (now img) ⌝ }
+    requires { ⌜ s < states (now img) ⌝ }
+    ensures { λ r. ⌜ r ≡ validSet (now (img .entry)) s ⌝ }
+{
+    let mut t = terminals(img);
+    let mut set: u64 = 0;
+    while 0 < t {
+        t -= 1;
+        set = with(set, act(img, s, t), t);
+    }
+    set
 }
