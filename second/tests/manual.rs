@@ -1,5 +1,5 @@
 //! The numbers that docs/MANUAL.md shows are those that this program gives: the small pack, the scans of section 2.3, the run of
-//! section 6.2 step by step, and the marked runs of section 6.3.
+//! section 6.2 step by step, and the marked runs of section 6.3; and so are the two runs of README.md.
 
 use second::marked::{marked_parses, small_image, SMALL_PACK};
 use second::readq::readq;
@@ -115,4 +115,21 @@ fn the_marked_runs() {
         let answer = case.expect("a case of that number").answer;
         assert_eq!(numbers(&row[2]), answer.map(u64::from), "{row:?}");
     }
+}
+
+#[test]
+fn the_runs_of_the_readme() {
+    let readme = file("README.md");
+    let indented = readme
+        .split("\n\n")
+        .filter(|part| part.starts_with("    code="));
+    let blocks: Vec<String> = indented
+        .map(|part| part.replace("    ", "") + "\n")
+        .collect();
+    let profile = file("packs/profile.pack");
+    let runs = [(SMALL_PACK, QUERY), (&profile, "share of group")];
+    assert_eq!(
+        blocks,
+        runs.map(|(pack, query)| readq(pack.as_bytes(), query.as_bytes()))
+    );
 }
