@@ -9,12 +9,11 @@ use native.Mathlib.Omega.{arith}
 use lib.Dec.{eqb}
 use lib.ListN.{length}
 use borrow.Author.Tests.{eq-eqb, ne-eqb, le-leb, lt-leb, eqb-true, leb-true, ltb-true}
-use Rattle.sets.specs.Sets.{lacks}
 use Rattle.shape.specs.declared.Verdict.{Verdict}
 use Rattle.shape.specs.declared.Verdict.the-variants.{Good, Wrong}
-use Rattle.pack.specs.Image.{word, terminals, productions, ranges, groups, states, nonterminals, scanStates, classes, gotoStart, moveStart, leastSize, greatestSize, needed, layout, actionOf, groupSet}
-use Rattle.shape.specs.Shape.{isWrong, rule, andThen, each, sizeRule, lengthRule, headRules, layoutRule, domRule, prodRule, actRight, actRule, cellRule, gotoRules, moveRules, rangeRule, scanRule, differs, groupRule, parserRules, scannerRules, shape}
-use Rattle.shape.specs.declared.rules.Table.the-variants.{Dom, Prod, Act, Class, Scan, Group}
+use Rattle.pack.specs.Image.{word, sizeWords, terminals, productions, ranges, groups, states, nonterminals, scanStates, classes, gotoStart, moveStart, leastSize, greatestSize, needed}
+use Rattle.shape.specs.Shape.{isWrong, rule, andThen, each, sizeRule, lengthRule, headRules, layoutRule, domRule, prodRule, actRule, cellRule, gotoRules, moveRules, rangeRule, scanRule, groupRule, parserRules, scannerRules, shape}
+use Rattle.shape.specs.declared.tables.Ruled.the-variants.{Dom, Prod, Act, Class, Scan, Group}
 use Rattle.shape.specs.Rows.{rowRule}
 use Rattle.pack.specs.Laid.{Sized, Laid}
 
@@ -96,15 +95,6 @@ each-good test (suc n) k e i l = go (each-good test n (k + 1)) (test k) refl e i
 pub each-at : (test : ℕ → Verdict) (n : ℕ) → each test n 0 ≡ Good → (i : ℕ) → i < n → test i ≡ Good
 each-at test n e i l = rw (zero-add i) at (each-good test n 0 e i l)
 
--- No action but error stands in a layout column.
-pub layout-column : (img : List ℕ) (t code : ℕ) {l : ℕ} → l ≡ layout img → (code ≡ 0 → ⊥) → (code ≡ 1 → ⊥) → lacks l t ≡ false → actRight img t (actionOf code) ≡ false
-unfolding actRight actionOf
-layout-column img t code a n m e = go (eqb ((code - 2) % 2) 0) refl
-  where
-    go : (b : Bool) → eqb ((code - 2) % 2) 0 ≡ b → actRight img t (actionOf code) ≡ false
-    go true f = simp (actionOf, ne-eqb _ _ n, ne-eqb _ _ m, f, actRight, ← a, e, _&&_)
-    go false f = simp (actionOf, ne-eqb _ _ n, ne-eqb _ _ m, f, actRight, ← a, e, _&&_)
-
 -- Tests in rows are tests one after the other.
 pub each-append : (test : ℕ → Verdict) (a b i : ℕ) → each test (a + b) i ≡ andThen (each test a i) (each test b (i + a))
 unfolding each andThen
@@ -144,21 +134,6 @@ each-rows test w (suc r) s =
     go Good e f ih = simp (each, e, sym f ∙ e, andThen) ih
     go (Wrong p) e f ih = simp (each, e, sym f ∙ e, andThen)
 
--- The loop that compares a set with the groups before it.
-module _ (img : List ℕ) (set n g : ℕ) where
-  pub differs-end : n ≤ g → differs img set (n - g) g ≡ true
-  unfolding differs
-  differs-end h = let z : n - g ≡ 0 = omega arith in rw z
-
-  module _ (h : g < n) {x : ℕ} (e : x ≡ groupSet img g) where
-    pub differs-not : x ≡ set → differs img set (n - g) g ≡ false
-    unfolding differs
-    differs-not t = let z : n - g ≡ suc (n - (g + 1)) = omega arith in rw z (simp (differs, ← e, eq-eqb _ _ t))
-
-    pub differs-on : (x ≡ set → ⊥) → differs img set (n - g) g ≡ differs img set (n - (g + 1)) (g + 1)
-    unfolding differs
-    differs-on t = let z : n - g ≡ suc (n - (g + 1)) = omega arith in rw z (simp (differs, ← e, ne-eqb _ _ t))
-
 -- A word that is too large, and one that is not.
 module _ (img : List ℕ) (most at : ℕ) {w : ℕ} (e : w ≡ word img at) where
   pub cell-wrong : most < w → Wrong at ≡ cellRule img most at
@@ -170,15 +145,15 @@ module _ (img : List ℕ) (most at : ℕ) {w : ℕ} (e : w ≡ word img at) wher
   cell-good h = simp (cellRule, rule, ← e, le-leb _ _ h)
 
 -- Sizes within their limits are sized, and an image of that length is laid out.
-size-good : (img : List ℕ) → each (sizeRule img) 8 1 ≡ Good → (i : ℕ) → i < 8
+size-good : (img : List ℕ) → each (sizeRule img) sizeWords 1 ≡ Good → (i : ℕ) → i < sizeWords
     → (1 + i < length img) × (leastSize (1 + i) ≤ word img (1 + i)) × (word img (1 + i) ≤ greatestSize (1 + i))
 unfolding sizeRule
 size-good img e i l =
-    let r = both _ _ (rule-good _ _ (each-good (sizeRule img) 8 1 e i l)) in
+    let r = both _ _ (rule-good _ _ (each-good (sizeRule img) sizeWords 1 e i l)) in
     let m = both _ _ (r .1) in
     (ltb-true _ _ (r .0), leb-true _ _ (m .0), leb-true _ _ (m .1))
 
-pub sizes-sized : (img : List ℕ) → each (sizeRule img) 8 1 ≡ Good → Sized img
+pub sizes-sized : (img : List ℕ) → each (sizeRule img) sizeWords 1 ≡ Good → Sized img
 unfolding leastSize greatestSize
 sizes-sized img e =
     let at = size-good img e in
@@ -232,7 +207,7 @@ module _ (img : List ℕ) {w : ℕ} (e : w ≡ word img 0) where
   unfolding headRules andThen rule
   head-first n = simp (headRules, ← e, ne-eqb w 1 n, rule, andThen)
 
-  module _ (o : w ≡ 1) {v : Verdict} (s : v ≡ each (sizeRule img) 8 1) where
+  module _ (o : w ≡ 1) {v : Verdict} (s : v ≡ each (sizeRule img) sizeWords 1) where
     pub head-size : isWrong v ≡ true → v ≡ headRules img
     unfolding headRules andThen rule
     head-size g = simp (headRules, ← e, eq-eqb w 1 o, rule, andThen) (then-wrong _ s g)
