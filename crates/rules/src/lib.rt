@@ -1,9 +1,5 @@
 // The rules of the shape, each a test of one word or of one set. These are inner functions: all but the first ask for an image that is
 // laid out as its sizes say.
-use pack::FIRST_NONTERMINAL;
-use pack::GREATEST_BYTE;
-use pack::MOST_SYMBOLS;
-use pack::MOST_TERMINALS;
 use pack::image;
 ghost use mathlib.Core.Path.{_≡_};
 ghost use Prim.Native.Nat.{ℕ, _<_, _≤_};
@@ -32,7 +28,7 @@ fn fits(img: &[u16], set: u64) -> bool
     ensures { λ r. ⌜ r ≡ fits (now (img .entry)) set ⌝ }
 {
     let t = image::terminals(img);
-    if t < MOST_TERMINALS {
+    if t < image::MOST_TERMINALS {
         if set >> t != 0 {
             return false;
         }
@@ -78,7 +74,7 @@ pub fn len_right(img: &[u16], p: usize) -> bool
     requires { ⌜ p < productions (now img) ⌝ }
     ensures { λ r. ⌜ r ≡ lenRight (now (img .entry)) p ⌝ }
 {
-    image::len(img, p) <= MOST_SYMBOLS
+    image::len(img, p) <= image::MOST_SYMBOLS
 }
 
 // A terminal 1..T-1 outside layout, or a nonterminal.
@@ -95,10 +91,10 @@ fn is_symbol(img: &[u16], x: usize) -> bool
         }
         return true;
     }
-    if x < FIRST_NONTERMINAL {
+    if x < image::FIRST_NONTERMINAL {
         return false;
     }
-    x < FIRST_NONTERMINAL + image::nonterminals(img)
+    x < image::FIRST_NONTERMINAL + image::nonterminals(img)
 }
 
 pub fn symbol_right(img: &[u16], p: usize, i: usize) -> bool
@@ -158,7 +154,7 @@ pub fn ends_right(img: &[u16], r: usize) -> bool
     if hi < image::lo(img, r) {
         return false;
     }
-    hi <= GREATEST_BYTE
+    hi <= image::GREATEST_BYTE
 }
 
 pub fn class_right(img: &[u16], r: usize) -> bool

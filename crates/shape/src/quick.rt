@@ -1,7 +1,6 @@
 // Quick passes over the large tables, with no way out before the end of a row, so that the compiler can take many words at once. Each
 // says only whether all is well: where it says no, the exact walk of tables.rt gives the place. So a pass promises something only where
 // it says yes.
-use pack::MOST_TERMINALS;
 use pack::image;
 ghost use mathlib.Core.Path.{_≡_};
 ghost use mathlib.Core.Bool.{true};
@@ -45,12 +44,12 @@ fn free_in(layout: u64, t: usize) -> u16
     65535
 }
 
-fn free_columns(layout: u64) -> [u16; MOST_TERMINALS]
+fn free_columns(layout: u64) -> [u16; image::MOST_TERMINALS]
     ensures { λ r. ⌜ Free layout r ⌝ }
 {
-    let mut free = [0u16; MOST_TERMINALS];
+    let mut free = [0u16; image::MOST_TERMINALS];
     let mut t: usize = 0;
-    while t < MOST_TERMINALS {
+    while t < image::MOST_TERMINALS {
         free[t] = free_in(layout, t);
         t += 1;
     }
@@ -84,7 +83,7 @@ fn flaw(code: u16, free: u16, shifts: u16, reductions: u16) -> u16
 }
 
 // 0 where no code of the row is wrong, from column 1 on.
-fn flaws(words: &[u16], free: &[u16; MOST_TERMINALS], shifts: u16, reductions: u16) -> u16
+fn flaws(words: &[u16], free: &[u16; image::MOST_TERMINALS], shifts: u16, reductions: u16) -> u16
     requires { ⌜ length (now words) ≤ mostTerminals ⌝ }
     ensures { λ r. ⌜ (r ≡ 0 → SoundRow (now (words .entry)) (now (free .entry)) shifts reductions) ⌝ }
 {
@@ -100,7 +99,7 @@ fn flaws(words: &[u16], free: &[u16; MOST_TERMINALS], shifts: u16, reductions: u
 // Whether the row of parse state s is right, which begins at a place.
 fn row(
     img: &[u16],
-    free: &[u16; MOST_TERMINALS],
+    free: &[u16; image::MOST_TERMINALS],
     s: usize,
     at: usize,
     shifts: u16,

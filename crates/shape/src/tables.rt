@@ -3,9 +3,6 @@
 use super::Verdict;
 use super::is_wrong;
 use super::quick;
-use pack::HEAD_WORDS;
-use pack::LAYOUT_AT;
-use pack::MOST_SYMBOLS;
 use pack::image;
 ghost use mathlib.Core.Path.{_≡_};
 ghost use Prim.Native.Nat.{ℕ, _+_, _<_, _≤_};
@@ -37,7 +34,7 @@ fn sizes(img: &[u16]) -> Verdict
     ensures { λ r. ⌜ r ≡ each (sizeRule (now (img .entry))) sizeWords 1 ⌝ }
 {
     let mut i: usize = 1;
-    while i < HEAD_WORDS {
+    while i < image::HEAD_WORDS {
         let v = size_rule(img, i);
         if is_wrong(v) {
             return v;
@@ -75,7 +72,7 @@ pub fn layout_rule(img: &[u16]) -> Verdict
     requires { ⌜ Laid (now img) ⌝ }
     ensures { λ r. ⌜ r ≡ layoutRule (now (img .entry)) ⌝ }
 {
-    rule(rules::layout_right(img), LAYOUT_AT)
+    rule(rules::layout_right(img), image::LAYOUT_AT)
 }
 
 fn dom_rule(img: &[u16], t: usize) -> Verdict
@@ -101,7 +98,7 @@ fn symbols(img: &[u16], p: usize) -> Verdict
     ensures { λ r. ⌜ r ≡ each (symbolRule (now (img .entry)) p) mostSymbols 0 ⌝ }
 {
     let mut i: usize = 0;
-    while i < MOST_SYMBOLS {
+    while i < image::MOST_SYMBOLS {
         let v = symbol_rule(img, p, i);
         if is_wrong(v) {
             return v;
