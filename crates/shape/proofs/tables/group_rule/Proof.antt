@@ -1,5 +1,4 @@
 use borrow.Author.Needs.{needs}
-use mathlib.Core.Path.{sym, _∙_}
 use Rattle.shape.specs.Shape.{groupRule}
 use Rattle.shape.proofs.RuleLaws.{fails, holds-then}
 use Rattle.shape.proofs.tables.group_rule.Statement.{statement}
@@ -9,11 +8,11 @@ returns : tie.Need-returns
 unfolding groupRule
 returns c =
     let l = c .before .before in
-    holds-then _ (sym (l .before .before .group-right .ensures) ∙ l .before .if1 .taken) (rw (l .chosen-right .ensures, c .before .chosen-at .ensures .0) at (c .rule .ensures))
+    holds-then _ (l .before .before .group-right .ensures) (l .before .if1 .taken) (rw (l .chosen-right .ensures, c .before .chosen-at .ensures .0) at (c .rule .ensures))
 
 returns-2 : tie.Need-returns-2
 unfolding groupRule
-returns-2 c = fails _ (sym (c .before .before .group-right .ensures) ∙ c .before .if1 .left) (c .group-at .ensures .0)
+returns-2 c = fails _ (c .before .before .group-right .ensures) (c .before .if1 .left) (c .group-at .ensures .0)
 
 pub group-rule-spec : {M : Type 1} → statement M
 group-rule-spec =
