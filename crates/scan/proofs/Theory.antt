@@ -18,7 +18,7 @@ use Rattle.shape.proofs.Good.{good-laid, good-move, good-class, good-acc, good-
 use Rattle.scan.specs.declared.Remembered.{Remembered}
 use Rattle.scan.specs.declared.Stop.{Stop}
 use Rattle.scan.specs.Scan.{nothing, remember, stopped, usedUp, scanFrom, scan}
-use Rattle.scan.specs.Tables.{Subset}
+use Rattle.conditions.specs.Conditions.{Subset}
 
 -- The ways that one byte of a scan can go. Theorems about the scan go by these cases and never look into it.
 module _ (img : List ℕ) (v allowance : ℕ) where

@@ -1,5 +1,4 @@
 pub mod Classed
 pub mod Matching
 pub mod Scan
-pub mod Tables
 pub mod Token

@@ -1,0 +1,4 @@
+pub mod Answers
+pub mod Decides
+pub mod EdgeLaws
+pub mod TestLaws

@@ -1,0 +1,16 @@
+// What the check answers with, and what it finds of one condition. The conditions themselves are definitions: they stand in specs/, and
+// the code that tests them is in crates of its own.
+
+// The answer: code 0 with zeros; code 4 with the word as its number; code 5 with the condition as its number, and its places.
+pub struct Checked {
+    pub code: u8,
+    pub number: usize,
+    pub first: usize,
+    pub second: usize,
+}
+
+// A condition holds, or it fails at these places.
+pub enum Finding {
+    Holds,
+    Fails(usize, usize),
+}
