@@ -1,9 +1,27 @@
-// Each number of the image by its name. These are inner functions: they ask for an image that is laid out as its sizes say.
+// Each number of the image by its name, and its place. These are inner functions: they ask for an image that is laid out as its sizes
+// say.
+use super::DOM_START;
+use super::GROUP_WORDS;
+use super::HEAD_WORDS;
+use super::LAYOUT_AT;
+use super::MOST_CLASSES;
+use super::MOST_GROUPS;
+use super::MOST_NONTERMINALS;
+use super::MOST_PARSE_STATES;
+use super::MOST_PRODUCTIONS;
+use super::MOST_RANGES;
+use super::MOST_SCAN_STATES;
+use super::MOST_TERMINALS;
+use super::PRODUCTION_WORDS;
+use super::RANGE_WORDS;
+use super::SCAN_WORDS;
+use super::SET_WORDS;
 ghost use mathlib.Core.Path.{_≡_};
 ghost use Prim.Native.Nat.{ℕ, _+_, _*_, _<_, _≤_};
 ghost use lib.ListN.{length};
-ghost use Rattle.pack.specs.Image.{word, setAt, terminals, nonterminals, productions, states, scanStates, classes, ranges, groups, prodStart, actStart, actAt, gotoStart, classStart, moveStart, scanStart, groupStart, needed, layout, dom, lhs, len, symbol, act, goto, move, lo, hi, rangeClass, acc, rej, poss, groupSet, chosen};
+ghost use Rattle.pack.specs.Image.{word, setWords, headWords, mostSymbols, productionWords, rangeWords, scanWords, groupWords, setAt, terminals, nonterminals, productions, states, scanStates, classes, ranges, groups, mostTerminals, leastSize, greatestSize, prodStart, actStart, gotoStart, classStart, moveStart, scanStart, groupStart, needed, domAt, prodAt, lenAt, symbolAt, actAt, gotoAt, rangeAt, hiAt, rangeClassAt, moveAt, scanAt, rejAt, possAt, groupAt, chosenAt, layout, dom, lhs, len, symbol, act, goto, move, lo, hi, rangeClass, acc, rej, poss, groupSet, chosen, validSet};
 ghost use Rattle.pack.specs.Laid.{Sized, Laid};
+ghost use Rattle.sets.specs.Sets.{single};
 
 fn wide(x: u16) -> usize
     ensures { λ r. ⌜ r ≡ x ⌝ }
@@ -28,64 +46,93 @@ pub fn word_at(img: &[u16], i: usize) -> usize
 
 // The set whose first word stands at a place.
 pub fn set_at(img: &[u16], i: usize) -> u64
-    requires { ⌜ i + 4 ≤ length (now img) ⌝ }
+    requires { ⌜ i + setWords ≤ length (now img) ⌝ }
     ensures { λ r. ⌜ r ≡ setAt (now (img .entry)) i ⌝ }
 {
     join(img[i], img[i + 1], img[i + 2], img[i + 3])
 }
 
+// The least and the most of the size at word i.
+const LEAST_SIZES: [usize; HEAD_WORDS] = [0, 1, 1, 1, 1, 1, 1, 0, 0];
+
+const GREATEST_SIZES: [usize; HEAD_WORDS] = [
+    0,
+    MOST_TERMINALS,
+    MOST_NONTERMINALS,
+    MOST_PRODUCTIONS,
+    MOST_PARSE_STATES,
+    MOST_SCAN_STATES,
+    MOST_CLASSES,
+    MOST_RANGES,
+    MOST_GROUPS,
+];
+
+pub fn least_size(i: usize) -> usize
+    requires { ⌜ i < headWords ⌝ }
+    ensures { λ r. ⌜ r ≡ leastSize i ⌝ }
+{
+    LEAST_SIZES[i]
+}
+
+pub fn greatest_size(i: usize) -> usize
+    requires { ⌜ i < headWords ⌝ }
+    ensures { λ r. ⌜ r ≡ greatestSize i ⌝ }
+{
+    GREATEST_SIZES[i]
+}
+
 // T, N, P, S, Q, C, R and G.
 pub fn terminals(img: &[u16]) -> usize
-    requires { ⌜ 9 ≤ length (now img) ⌝ }
+    requires { ⌜ headWords ≤ length (now img) ⌝ }
     ensures { λ r. ⌜ r ≡ terminals (now (img .entry)) ⌝ }
 {
     word_at(img, 1)
 }
 
 pub fn nonterminals(img: &[u16]) -> usize
-    requires { ⌜ 9 ≤ length (now img) ⌝ }
+    requires { ⌜ headWords ≤ length (now img) ⌝ }
     ensures { λ r. ⌜ r ≡ nonterminals (now (img .entry)) ⌝ }
 {
     word_at(img, 2)
 }
 
 pub fn productions(img: &[u16]) -> usize
-    requires { ⌜ 9 ≤ length (now img) ⌝ }
+    requires { ⌜ headWords ≤ length (now img) ⌝ }
     ensures { λ r. ⌜ r ≡ productions (now (img .entry)) ⌝ }
 {
     word_at(img, 3)
 }
 
 pub fn states(img: &[u16]) -> usize
-    requires { ⌜ 9 ≤ length (now img) ⌝ }
+    requires { ⌜ headWords ≤ length (now img) ⌝ }
     ensures { λ r. ⌜ r ≡ states (now (img .entry)) ⌝ }
 {
     word_at(img, 4)
 }
 
 pub fn scan_states(img: &[u16]) -> usize
-    requires { ⌜ 9 ≤ length (now img) ⌝ }
+    requires { ⌜ headWords ≤ length (now img) ⌝ }
     ensures { λ r. ⌜ r ≡ scanStates (now (img .entry)) ⌝ }
 {
     word_at(img, 5)
 }
 
 pub fn classes(img: &[u16]) -> usize
-    requires { ⌜ 9 ≤ length (now img) ⌝ }
+    requires { ⌜ headWords ≤ length (now img) ⌝ }
     ensures { λ r. ⌜ r ≡ classes (now (img .entry)) ⌝ }
 {
     word_at(img, 6)
 }
 
 pub fn ranges(img: &[u16]) -> usize
-    requires { ⌜ 9 ≤ length (now img) ⌝ }
+    requires { ⌜ headWords ≤ length (now img) ⌝ }
     ensures { λ r. ⌜ r ≡ ranges (now (img .entry)) ⌝ }
 {
     word_at(img, 7)
 }
 
 pub fn groups(img: &[u16]) -> usize
-    requires { ⌜ 9 ≤ length (now img) ⌝ }
+    requires { ⌜ headWords ≤ length (now img) ⌝ }
     ensures { λ r. ⌜ r ≡ groups (now (img .entry)) ⌝ }
 {
     word_at(img, 8)
@@ -96,14 +143,14 @@ pub fn prod_start(img: &[u16]) -> usize
     requires { ⌜ Sized (now img) ⌝ }
     ensures { λ r. ⌜ r ≡ prodStart (now (img .entry)) ⌝ }
 {
-    13 + terminals(img) * 4
+    DOM_START + terminals(img) * SET_WORDS
 }
 
 pub fn act_start(img: &[u16]) -> usize
     requires { ⌜ Sized (now img) ⌝ }
     ensures { λ r. ⌜ r ≡ actStart (now (img .entry)) ⌝ }
 {
-    prod_start(img) + productions(img) * 16
+    prod_start(img) + productions(img) * PRODUCTION_WORDS
 }
 
 pub fn goto_start(img: &[u16]) -> usize
@@ -124,7 +171,7 @@ pub fn move_start(img: &[u16]) -> usize
     requires { ⌜ Sized (now img) ⌝ }
     ensures { λ r. ⌜ r ≡ moveStart (now (img .entry)) ⌝ }
 {
-    class_start(img) + ranges(img) * 3
+    class_start(img) + ranges(img) * RANGE_WORDS
 }
 
 pub fn scan_start(img: &[u16]) -> usize
@@ -138,7 +185,7 @@ pub fn group_start(img: &[u16]) -> usize
     requires { ⌜ Sized (now img) ⌝ }
     ensures { λ r. ⌜ r ≡ groupStart (now (img .entry)) ⌝ }
 {
-    scan_start(img) + scan_states(img) * 12
+    scan_start(img) + scan_states(img) * SCAN_WORDS
 }
 
 // How long the image must be.
@@ -146,22 +193,143 @@ pub fn needed(img: &[u16]) -> usize
     requires { ⌜ Sized (now img) ⌝ }
     ensures { λ r. ⌜ r ≡ needed (now (img .entry)) ⌝ }
 {
-    group_start(img) + groups(img) * 5
+    group_start(img) + groups(img) * GROUP_WORDS
 }
 
-// The word in a row and a column of a table.
-fn cell(img: &[u16], start: usize, width: usize, row: usize, column: usize) -> usize
-    requires { ⌜ start + (row * width + column) < length (now img) ⌝ }
-    ensures { λ r. ⌜ r ≡ word (now (img .entry)) (start + (row * width + column)) ⌝ }
+// Where the entries stand. What is given back is within the image with all that belongs to it.
+pub fn dom_at(t: usize) -> usize
+    requires { ⌜ t < mostTerminals ⌝ }
+    ensures { λ r. ⌜ r ≡ domAt t ⌝ }
 {
-    word_at(img, start + (row * width + column))
+    DOM_START + t * SET_WORDS
 }
 
+pub fn prod_at(img: &[u16], p: usize) -> usize
+    requires { ⌜ Laid (now img) ⌝ }
+    requires { ⌜ p < productions (now img) ⌝ }
+    ensures { λ r. ⌜ (r ≡ prodAt (now (img .entry)) p) × (r + productionWords ≤ length (now (img .entry))) ⌝ }
+{
+    prod_start(img) + p * PRODUCTION_WORDS
+}
+
+pub fn len_at(img: &[u16], p: usize) -> usize
+    requires { ⌜ Laid (now img) ⌝ }
+    requires { ⌜ p < productions (now img) ⌝ }
+    ensures { λ r. ⌜ (r ≡ lenAt (now (img .entry)) p) × (r < length (now (img .entry))) ⌝ }
+{
+    prod_at(img, p) + 1
+}
+
+pub fn symbol_at(img: &[u16], p: usize, i: usize) -> usize
+    requires { ⌜ Laid (now img) ⌝ }
+    requires { ⌜ (p < productions (now img)) × (i < mostSymbols) ⌝ }
+    ensures { λ r. ⌜ (r ≡ symbolAt (now (img .entry)) p i) × (r < length (now (img .entry))) ⌝ }
+{
+    prod_at(img, p) + 2 + i
+}
+
+// The place of a row and a column in a table.
+fn cell_at(img: &[u16], start: usize, width: usize, row: usize, column: usize) -> usize
+    requires { ⌜ start + (row * width + column) < length (now img) ⌝ }
+    ensures { λ r. ⌜ (r ≡ start + (row * width + column)) × (r < length (now (img .entry))) ⌝ }
+{
+    start + (row * width + column)
+}
+
+pub fn act_at(img: &[u16], s: usize, t: usize) -> usize
+    requires { ⌜ Laid (now img) ⌝ }
+    requires { ⌜ (s < states (now img)) × (t < terminals (now img)) ⌝ }
+    ensures { λ r. ⌜ (r ≡ actAt (now (img .entry)) s t) × (r < length (now (img .entry))) ⌝ }
+{
+    cell_at(img, act_start(img), terminals(img), s, t)
+}
+
+pub fn goto_at(img: &[u16], s: usize, n: usize) -> usize
+    requires { ⌜ Laid (now img) ⌝ }
+    requires { ⌜ (s < states (now img)) × (n < nonterminals (now img)) ⌝ }
+    ensures { λ r. ⌜ (r ≡ gotoAt (now (img .entry)) s n) × (r < length (now (img .entry))) ⌝ }
+{
+    cell_at(img, goto_start(img), nonterminals(img), s, n)
+}
+
+pub fn range_at(img: &[u16], r: usize) -> usize
+    requires { ⌜ Laid (now img) ⌝ }
+    requires { ⌜ r < ranges (now img) ⌝ }
+    ensures { λ x. ⌜ (x ≡ rangeAt (now (img .entry)) r) × (x + rangeWords ≤ length (now (img .entry))) ⌝ }
+{
+    class_start(img) + r * RANGE_WORDS
+}
+
+pub fn hi_at(img: &[u16], r: usize) -> usize
+    requires { ⌜ Laid (now img) ⌝ }
+    requires { ⌜ r < ranges (now img) ⌝ }
+    ensures { λ x. ⌜ (x ≡ hiAt (now (img .entry)) r) × (x < length (now (img .entry))) ⌝ }
+{
+    range_at(img, r) + 1
+}
+
+pub fn range_class_at(img: &[u16], r: usize) -> usize
+    requires { ⌜ Laid (now img) ⌝ }
+    requires { ⌜ r < ranges (now img) ⌝ }
+    ensures { λ x. ⌜ (x ≡ rangeClassAt (now (img .entry)) r) × (x < length (now (img .entry))) ⌝ }
+{
+    range_at(img, r) + 2
+}
+
+pub fn move_at(img: &[u16], q: usize, c: usize) -> usize
+    requires { ⌜ Laid (now img) ⌝ }
+    requires { ⌜ (q < scanStates (now img)) × (c < classes (now img)) ⌝ }
+    ensures { λ r. ⌜ (r ≡ moveAt (now (img .entry)) q c) × (r < length (now (img .entry))) ⌝ }
+{
+    cell_at(img, move_start(img), classes(img), q, c)
+}
+
+pub fn scan_at(img: &[u16], q: usize) -> usize
+    requires { ⌜ Laid (now img) ⌝ }
+    requires { ⌜ q < scanStates (now img) ⌝ }
+    ensures { λ r. ⌜ (r ≡ scanAt (now (img .entry)) q) × (r + scanWords ≤ length (now (img .entry))) ⌝ }
+{
+    scan_start(img) + q * SCAN_WORDS
+}
+
+pub fn rej_at(img: &[u16], q: usize) -> usize
+    requires { ⌜ Laid (now img) ⌝ }
+    requires { ⌜ q < scanStates (now img) ⌝ }
+    ensures { λ r. ⌜ (r ≡ rejAt (now (img .entry)) q) × (r + setWords ≤ length (now (img .entry))) ⌝ }
+{
+    scan_at(img, q) + SET_WORDS
+}
+
+pub fn poss_at(img: &[u16], q: usize) -> usize
+    requires { ⌜ Laid (now img) ⌝ }
+    requires { ⌜ q < scanStates (now img) ⌝ }
+    ensures { λ r. ⌜ (r ≡ possAt (now (img .entry)) q) × (r + setWords ≤ length (now (img .entry))) ⌝ }
+{
+    scan_at(img, q) + 2 * SET_WORDS
+}
+
+pub fn group_at(img: &[u16], g: usize) -> usize
+    requires { ⌜ Laid (now img) ⌝ }
+    requires { ⌜ g < groups (now img) ⌝ }
+    ensures { λ r. ⌜ (r ≡ groupAt (now (img .entry)) g) × (r + groupWords ≤ length (now (img .entry))) ⌝ }
+{
+    group_start(img) + g * GROUP_WORDS
+}
+
+pub fn chosen_at(img: &[u16], g: usize) -> usize
+    requires { ⌜ Laid (now img) ⌝ }
+    requires { ⌜ g < groups (now img) ⌝ }
+    ensures { λ r. ⌜ (r ≡ chosenAt (now (img .entry)) g) × (r < length (now (img .entry))) ⌝ }
+{
+    group_at(img, g) + SET_WORDS
+}
+
+// What stands there.
 pub fn layout(img: &[u16]) -> u64
     requires { ⌜ Laid (now img) ⌝ }
     ensures { λ r. ⌜ r ≡ layout (now (img .entry)) ⌝ }
 {
-    set_at(img, 9)
+    set_at(img, LAYOUT_AT)
 }
 
 pub fn dom(img: &[u16], t: usize) -> u64
@@ -169,7 +337,7 @@ pub fn dom(img: &[u16], t: usize) -> u64
     requires { ⌜ t < terminals (now img) ⌝ }
     ensures { λ r. ⌜ r ≡ dom (now (img .entry)) t ⌝ }
 {
-    set_at(img, 13 + t * 4)
+    set_at(img, dom_at(t))
 }
 
 pub fn lhs(img: &[u16], p: usize) -> usize
@@ -177,7 +345,7 @@ pub fn lhs(img: &[u16], p: usize) -> usize
     requires { ⌜ p < productions (now img) ⌝ }
     ensures { λ r. ⌜ r ≡ lhs (now (img .entry)) p ⌝ }
 {
-    word_at(img, prod_start(img) + p * 16)
+    word_at(img, prod_at(img, p))
 }
 
 pub fn len(img: &[u16], p: usize) -> usize
@@ -185,24 +353,15 @@ pub fn len(img: &[u16], p: usize) -> usize
     requires { ⌜ p < productions (now img) ⌝ }
     ensures { λ r. ⌜ r ≡ len (now (img .entry)) p ⌝ }
 {
-    word_at(img, prod_start(img) + p * 16 + 1)
+    word_at(img, len_at(img, p))
 }
 
 pub fn symbol(img: &[u16], p: usize, i: usize) -> usize
     requires { ⌜ Laid (now img) ⌝ }
-    requires { ⌜ (p < productions (now img)) × (i < 14) ⌝ }
+    requires { ⌜ (p < productions (now img)) × (i < mostSymbols) ⌝ }
     ensures { λ r. ⌜ r ≡ symbol (now (img .entry)) p i ⌝ }
 {
-    word_at(img, prod_start(img) + p * 16 + 2 + i)
-}
-
-// Where the cell of a state and a terminal stands in the action table.
-pub fn act_at(img: &[u16], s: usize, t: usize) -> usize
-    requires { ⌜ Laid (now img) ⌝ }
-    requires { ⌜ (s < states (now img)) × (t < terminals (now img)) ⌝ }
-    ensures { λ r. ⌜ (r ≡ actAt (now (img .entry)) s t) × (r < length (now (img .entry))) ⌝ }
-{
-    act_start(img) + (s * terminals(img) + t)
+    word_at(img, symbol_at(img, p, i))
 }
 
 pub fn act(img: &[u16], s: usize, t: usize) -> usize
@@ -218,15 +377,7 @@ pub fn goto(img: &[u16], s: usize, n: usize) -> usize
     requires { ⌜ (s < states (now img)) × (n < nonterminals (now img)) ⌝ }
     ensures { λ r. ⌜ r ≡ goto (now (img .entry)) s n ⌝ }
 {
-    cell(img, goto_start(img), nonterminals(img), s, n)
-}
-
-pub fn move_of(img: &[u16], q: usize, c: usize) -> usize
-    requires { ⌜ Laid (now img) ⌝ }
-    requires { ⌜ (q < scanStates (now img)) × (c < classes (now img)) ⌝ }
-    ensures { λ r. ⌜ r ≡ move (now (img .entry)) q c ⌝ }
-{
-    cell(img, move_start(img), classes(img), q, c)
+    word_at(img, goto_at(img, s, n))
 }
 
 pub fn lo(img: &[u16], r: usize) -> usize
@@ -234,7 +385,7 @@ pub fn lo(img: &[u16], r: usize) -> usize
     requires { ⌜ r < ranges (now img) ⌝ }
     ensures { λ x. ⌜ x ≡ lo (now (img .entry)) r ⌝ }
 {
-    word_at(img, class_start(img) + r * 3)
+    word_at(img, range_at(img, r))
 }
 
 pub fn hi(img: &[u16], r: usize) -> usize
@@ -242,7 +393,7 @@ pub fn hi(img: &[u16], r: usize) -> usize
     requires { ⌜ r < ranges (now img) ⌝ }
     ensures { λ x. ⌜ x ≡ hi (now (img .entry)) r ⌝ }
 {
-    word_at(img, class_start(img) + r * 3 + 1)
+    word_at(img, hi_at(img, r))
 }
 
 pub fn range_class(img: &[u16], r: usize) -> usize
@@ -250,7 +401,15 @@ pub fn range_class(img: &[u16], r: usize) -> usize
     requires { ⌜ r < ranges (now img) ⌝ }
     ensures { λ x. ⌜ x ≡ rangeClass (now (img .entry)) r ⌝ }
 {
-    word_at(img, class_start(img) + r * 3 + 2)
+    word_at(img, range_class_at(img, r))
+}
+
+pub fn move_of(img: &[u16], q: usize, c: usize) -> usize
+    requires { ⌜ Laid (now img) ⌝ }
+    requires { ⌜ (q < scanStates (now img)) × (c < classes (now img)) ⌝ }
+    ensures { λ r. ⌜ r ≡ move (now (img .entry)) q c ⌝ }
+{
+    word_at(img, move_at(img, q, c))
 }
 
 pub fn acc(img: &[u16], q: usize) -> u64
@@ -258,7 +417,7 @@ pub fn acc(img: &[u16], q: usize) -> u64
     requires { ⌜ q < scanStates (now img) ⌝ }
     ensures { λ r. ⌜ r ≡ acc (now (img .entry)) q ⌝ }
 {
-    set_at(img, scan_start(img) + q * 12)
+    set_at(img, scan_at(img, q))
 }
 
 pub fn rej(img: &[u16], q: usize) -> u64
@@ -266,7 +425,7 @@ pub fn rej(img: &[u16], q: usize) -> u64
     requires { ⌜ q < scanStates (now img) ⌝ }
     ensures { λ r. ⌜ r ≡ rej (now (img .entry)) q ⌝ }
 {
-    set_at(img, scan_start(img) + q * 12 + 4)
+    set_at(img, rej_at(img, q))
 }
 
 pub fn poss(img: &[u16], q: usize) -> u64
@@ -274,7 +433,7 @@ pub fn poss(img: &[u16], q: usize) -> u64
     requires { ⌜ q < scanStates (now img) ⌝ }
     ensures { λ r. ⌜ r ≡ poss (now (img .entry)) q ⌝ }
 {
-    set_at(img, scan_start(img) + q * 12 + 8)
+    set_at(img, poss_at(img, q))
 }
 
 pub fn group_set(img: &[u16], g: usize) -> u64
@@ -282,7 +441,7 @@ pub fn group_set(img: &[u16], g: usize) -> u64
     requires { ⌜ g < groups (now img) ⌝ }
     ensures { λ r. ⌜ r ≡ groupSet (now (img .entry)) g ⌝ }
 {
-    set_at(img, group_start(img) + g * 5)
+    set_at(img, group_at(img, g))
 }
 
 pub fn chosen(img: &[u16], g: usize) -> usize
@@ -290,5 +449,31 @@ pub fn chosen(img: &[u16], g: usize) -> usize
     requires { ⌜ g < groups (now img) ⌝ }
     ensures { λ r. ⌜ r ≡ chosen (now (img .entry)) g ⌝ }
 {
-    word_at(img, group_start(img) + g * 5 + 4)
+    word_at(img, chosen_at(img, g))
+}
+
+// The set with terminal t, where its cell is not 0.
+fn with(set: u64, cell: usize, t: usize) -> u64
+    requires { ⌜ (t < mostTerminals) × (single t + set < 18446744073709551616) ⌝ }
+    ensures { λ r. ⌜ (cell ≡ 0 → r ≡ set) × ((cell ≡ 0 → ⊥) → r ≡ single t + set) ⌝ }
+{
+    if cell == 0 {
+        return set;
+    }
+    set + (1u64 << t)
+}
+
+// The terminals with a cell that is not 0 in the row of parse state s.
+pub fn valid_set(img: &[u16], s: usize) -> u64
+    requires { ⌜ Laid (now img) ⌝ }
+    requires { ⌜ s < states (now img) ⌝ }
+    ensures { λ r. ⌜ r ≡ validSet (now (img .entry)) s ⌝ }
+{
+    let mut t = terminals(img);
+    let mut set: u64 = 0;
+    while 0 < t {
+        t -= 1;
+        set = with(set, act(img, s, t), t);
+    }
+    set
 }

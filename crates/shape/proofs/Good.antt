@@ -3,7 +3,6 @@ use mathlib.Core.Path.{_≡_, refl, sym, _∙_}
 use mathlib.Core.Bool.{Bool, true, false}
 use mathlib.Core.List.{List}
 use Prim.Native.Nat.{ℕ, zero, suc, _+_, _-_, _<_, _≤_, _^_}
-use native.Mathlib.Nat.{zero-add}
 use native.Mathlib.Omega.{arith}
 use lib.Dec.{eqb, leb}
 use borrow.Author.Tests.{ne-eqb, leb-true, ltb-true, eqb-true}
@@ -13,48 +12,45 @@ use Rattle.shape.specs.declared.Verdict.the-variants.{Good, Wrong}
 use Rattle.pack.specs.Image.{terminals, nonterminals, states, scanStates, classes, ranges, layout, goto, move, lo, hi, rangeClass, acc, rej, poss, classIn, classOf, needed}
 use Rattle.shape.specs.Shape.{each, headRules, parserRules, scannerRules, fits, layoutRule, cellRule, gotoRules, moveRules, abovePrevious, rangeRule, emptyAtStart, scanRule, shape}
 use Rattle.pack.specs.Laid.{Sized, Laid}
-use Rattle.shape.proofs.Laws.{both, rule-good, and-then-good, each-good, head-laid}
+use Rattle.shape.proofs.Laws.{both, rule-good, and-then-good, each-at, head-laid}
 
 module _ (img : List ℕ) (good : shape img ≡ Good) where
-  parts : (headRules img ≡ Good) × (parserRules img ≡ Good) × (scannerRules img ≡ Good)
+  -- The three parts of the test are good.
+  pub good-parts : (headRules img ≡ Good) × (parserRules img ≡ Good) × (scannerRules img ≡ Good)
   unfolding shape
-  parts =
+  good-parts =
       let a = and-then-good _ _ good in
       let b = and-then-good _ _ (a .1) in
       (a .0, b .0, b .1)
 
   -- The sizes are within their limits, and the image is as long as they need.
   pub good-laid : Laid img
-  good-laid = head-laid img (parts .0)
-
-  -- The test of a row is good.
-  row : (test : ℕ → Verdict) (n : ℕ) → each test n 0 ≡ Good → (i : ℕ) → i < n → test i ≡ Good
-  row test n e i l = rw (zero-add i) at (each-good test n 0 e i l)
+  good-laid = head-laid img (good-parts .0)
 
   scanner : (each (rangeRule img) (ranges img) 0 ≡ Good) × (moveRules img ≡ Good) × (each (scanRule img) (scanStates img) 0 ≡ Good)
   unfolding scannerRules
   scanner =
-      let a = and-then-good _ _ (parts .2) in
+      let a = and-then-good _ _ (good-parts .2) in
       let b = and-then-good _ _ (a .1) in
       (a .0, b .0, and-then-good _ _ (b .1) .0)
 
   -- Every move leads to a scan state, or nowhere.
   pub good-move : (q c : ℕ) → q < scanStates img → c < classes img → move img q c ≤ scanStates img
   unfolding moveRules cellRule move
-  good-move q c lq lc = leb-true _ _ (rule-good _ _ (row _ _ (row _ _ (scanner .1) q lq) c lc))
+  good-move q c lq lc = leb-true _ _ (rule-good _ _ (each-at _ _ (each-at _ _ (scanner .1) q lq) c lc))
 
   -- The class of every byte is one of the C.
   pub range-class : (r : ℕ) → r < ranges img → rangeClass img r < classes img
   unfolding rangeRule
   range-class r l =
-      let b = and-then-good _ _ (row _ _ (scanner .0) r l) in
+      let b = and-then-good _ _ (each-at _ _ (scanner .0) r l) in
       ltb-true _ _ (rule-good _ _ (and-then-good _ _ (b .1) .1))
 
   -- Each range ends where it begins or later, within the bytes, and above the one before it.
   range-ends : (r : ℕ) → r < ranges img → (leb (lo img r) (hi img r) ≡ true) × (leb (hi img r) 255 ≡ true)
   unfolding rangeRule
   range-ends r l =
-      let b = and-then-good _ _ (row _ _ (scanner .0) r l) in
+      let b = and-then-good _ _ (each-at _ _ (scanner .0) r l) in
       both (leb (lo img r) (hi img r)) (leb (hi img r) 255) (rule-good _ _ (and-then-good _ _ (b .1) .0))
 
   pub good-range : (r : ℕ) → r < ranges img → lo img r ≤ hi img r
@@ -66,7 +62,7 @@ module _ (img : List ℕ) (good : shape img ≡ Good) where
   pub good-above : (r : ℕ) → r + 1 < ranges img → hi img r < lo img (r + 1)
   unfolding rangeRule abovePrevious
   good-above r l =
-      let b = rule-good (abovePrevious img (r + 1)) _ (and-then-good _ _ (row _ _ (scanner .0) (r + 1) l) .0) in
+      let b = rule-good (abovePrevious img (r + 1)) _ (and-then-good _ _ (each-at _ _ (scanner .0) (r + 1) l) .0) in
       let n : eqb (r + 1) 0 ≡ false = ne-eqb (r + 1) 0 (λ z. omega arith) in
       let m : r + 1 - 1 ≡ r = omega arith in
       ltb-true _ _ (rw m at (simp (abovePrevious, n) at b))
@@ -94,7 +90,7 @@ module _ (img : List ℕ) (good : shape img ≡ Good) where
   shares-nothing set e = eqb-true _ _ e
 
   scan-row : (q : ℕ) → q < scanStates img → scanRule img q ≡ Good
-  scan-row q l = row _ _ (scanner .2) q l
+  scan-row q l = each-at _ _ (scanner .2) q l
 
   pub good-acc : (q : ℕ) → q < scanStates img → (acc img q < 2 ^ terminals img) × (has (acc img q) 0 ≡ 0)
   unfolding scanRule
@@ -128,7 +124,7 @@ module _ (img : List ℕ) (good : shape img ≡ Good) where
 
   pub good-layout : (layout img < 2 ^ terminals img) × (has (layout img) 0 ≡ 0)
   unfolding parserRules layoutRule
-  good-layout = fits-below _ (rule-good _ _ (and-then-good _ _ (parts .1) .0))
+  good-layout = fits-below _ (rule-good _ _ (and-then-good _ _ (good-parts .1) .0))
 
 -- "The largest image is 20,589 words."
 pub largest-image : (img : List ℕ) → Sized img → needed img ≤ 20589

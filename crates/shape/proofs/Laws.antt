@@ -93,6 +93,9 @@ each-good test (suc n) k e i l = go (each-good test n (k + 1)) (test k) refl e i
     go ih Good t f zero m = rw (add-zero k) t
     go ih Good t f (suc j) m = let z : k + suc j ≡ k + 1 + j = omega arith in rw z (ih f j (le-of-suc-le-suc m))
 
+pub each-at : (test : ℕ → Verdict) (n : ℕ) → each test n 0 ≡ Good → (i : ℕ) → i < n → test i ≡ Good
+each-at test n e i l = rw (zero-add i) at (each-good test n 0 e i l)
+
 -- No action but error stands in a layout column.
 pub layout-column : (img : List ℕ) (t code : ℕ) {l : ℕ} → l ≡ layout img → (code ≡ 0 → ⊥) → (code ≡ 1 → ⊥) → lacks l t ≡ false → actRight img t (actionOf code) ≡ false
 unfolding actRight actionOf

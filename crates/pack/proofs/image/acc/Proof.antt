@@ -5,9 +5,9 @@ use Rattle.pack.proofs.image.acc.Tie as tie
 
 returns : tie.Need-returns
 unfolding acc
-returns c = rw (c .before .scan-start .ensures) at (c .set-at .ensures)
+returns c = rw (c .before .scan-at .ensures .0) at (c .set-at .ensures)
 
 pub acc-spec : {M : Type 1} → statement M
 acc-spec =
     tie.close
-    (tie.spec (λ c κs. search needs) (λ c. search needs) (λ c. search needs) (λ c κs. search needs) returns)
+    (tie.spec (λ c κs. search needs) (λ c κs. search needs) returns)

@@ -5,9 +5,9 @@ use Rattle.pack.proofs.image.chosen.Tie as tie
 
 returns : tie.Need-returns
 unfolding chosen
-returns c = rw (c .before .group-start .ensures) at (c .word-at .ensures)
+returns c = rw (c .before .chosen-at .ensures .0) at (c .word-at .ensures)
 
 pub chosen-spec : {M : Type 1} → statement M
 chosen-spec =
     tie.close
-    (tie.spec (λ c κs. search needs) (λ c. search needs) (λ c. search needs) (λ c. search needs) (λ c κs. search needs) returns)
+    (tie.spec (λ c κs. search needs) (λ c κs. search needs) returns)

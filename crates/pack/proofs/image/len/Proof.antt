@@ -5,9 +5,9 @@ use Rattle.pack.proofs.image.len.Tie as tie
 
 returns : tie.Need-returns
 unfolding len
-returns c = rw (c .before .prod-start .ensures) at (c .word-at .ensures)
+returns c = rw (c .before .len-at .ensures .0) at (c .word-at .ensures)
 
 pub len-spec : {M : Type 1} → statement M
 len-spec =
     tie.close
-    (tie.spec (λ c κs. search needs) (λ c. search needs) (λ c. search needs) (λ c. search needs) (λ c κs. search needs) returns)
+    (tie.spec (λ c κs. search needs) (λ c κs. search needs) returns)

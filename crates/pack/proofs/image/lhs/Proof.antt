@@ -5,9 +5,9 @@ use Rattle.pack.proofs.image.lhs.Tie as tie
 
 returns : tie.Need-returns
 unfolding lhs
-returns c = rw (c .before .prod-start .ensures) at (c .word-at .ensures)
+returns c = rw (c .before .prod-at .ensures .0) at (c .word-at .ensures)
 
 pub lhs-spec : {M : Type 1} → statement M
 lhs-spec =
     tie.close
-    (tie.spec (λ c κs. search needs) (λ c. search needs) (λ c. search needs) (λ c κs. search needs) returns)
+    (tie.spec (λ c κs. search needs) (λ c κs. search needs) returns)

@@ -5,9 +5,9 @@ use Rattle.pack.proofs.image.rej.Tie as tie
 
 returns : tie.Need-returns
 unfolding rej
-returns c = rw (c .before .scan-start .ensures) at (c .set-at .ensures)
+returns c = rw (c .before .rej-at .ensures .0) at (c .set-at .ensures)
 
 pub rej-spec : {M : Type 1} → statement M
 rej-spec =
     tie.close
-    (tie.spec (λ c κs. search needs) (λ c. search needs) (λ c. search needs) (λ c. search needs) (λ c κs. search needs) returns)
+    (tie.spec (λ c κs. search needs) (λ c κs. search needs) returns)
