@@ -14,7 +14,7 @@ use Rattle.shape.specs.Shape.{shape}
 use Rattle.shape.proofs.Good.{good-laid}
 use Rattle.conditions.specs.Edges.{Edge, Back, symbols, leads, enters, onlyOn, reached}
 use Rattle.conditions.specs.Tests.{allBelow, implies, same, Decides}
-use Rattle.conditions.specs.Conditions.{K3, K4, K5, K6, Reduces, outranked, k1, within, k2, isGroup, k3, k4, reduces, steps, ends, k5, k6, fromStart, Subset, matched, Outranked, K1, K2}
+use Rattle.conditions.specs.Conditions.{K3, K4, K5, K6, Reduces, outranked, k1, within, k2, isGroup, settled, k3, k4, reduces, steps, ends, k5, k6, fromStart, Subset, matched, Outranked, K1, K2}
 use Rattle.conditions.specs.Check.{Condition, c1, c2, c3, c4, c5, c6, firsts, seconds, Meets, test, later}
 use Rattle.conditions.proofs.TestLaws.{and-left, and-right, and-both, implies-gives, implies-all, same-is, same-all, all-each, all-true, some-one, some-true, member-has, has-member, some-terminal, terminal-some, subset-is}
 use Rattle.conditions.proofs.EdgeLaws.{edge-from, edge-on, leads-by, leads-is, enters-by, enters-is, only-each, only-is, back-from, reached-back, back-reached}
@@ -81,7 +81,7 @@ module _ (img : List ℕ) where
   }
 
   pub decides-3 : (s q : ℕ) → Decides (k3 img s q) (K3 img s q)
-  unfolding k3 isGroup
+  unfolding k3 settled isGroup
   decides-3 s q =
       let both = meet (acc img q) (validSet img s) in
       record {

@@ -6,7 +6,7 @@ use Prim.Native.Nat.{ℕ, zero, suc, _+_, _*_, _-_, _/_, _%_, _<_, _≤_}
 use native.Mathlib.Omega.{arith}
 use lib.Dec.{eqb, leb, ltb}
 use borrow.Author.Tests.{eq-eqb, le-leb, lt-ltb, le-ltb, eqb-true, leb-true, ltb-true}
-use Rattle.pack.specs.Image.{terminals, nonterminals, states, act, goto}
+use Rattle.pack.specs.Image.{terminals, nonterminals, states, act, goto, firstNonterminal}
 use Rattle.conditions.specs.Edges.{Edge, shifts, goes, Back, here, along, symbols, shiftOf, edgeTo, isEdge, leads, enters, onlyOn, reached}
 use Rattle.conditions.proofs.TestLaws.{false-true, and-left, and-right, implies-gives, implies-all, all-each, all-true, some-one, some-true}
 
@@ -31,19 +31,19 @@ module _ (img : List ℕ) (small : terminals img ≤ 64) where
   unfolding isEdge edgeTo
   edge-of {s} {x} {v} ls e = go (ltb x (terminals img)) refl (eqb-true _ _ e)
     where
-      gone : (c : Bool) → (leb 64 x && ltb x (symbols img)) ≡ c → elim c as (λ b. ℕ) [ true ↦ goto img s (x - 64) | false ↦ 0 ] ≡ 1 + v → Edge img s x v
+      gone : (c : Bool) → (leb firstNonterminal x && ltb x (symbols img)) ≡ c → elim c as (λ b. ℕ) [ true ↦ goto img s (x - firstNonterminal) | false ↦ 0 ] ≡ 1 + v → Edge img s x v
       gone true f h =
-          let l : 64 ≤ x = leb-true _ _ (and-left (leb 64 x) (ltb x (symbols img)) f) in
-          let m : x < 64 + nonterminals img = ltb-true _ _ (and-right (leb 64 x) (ltb x (symbols img)) f) in
-          let z : 64 + (x - 64) ≡ x = omega arith in
-          let a : Edge img s (64 + (x - 64)) v = goes {n = x - 64} ls (omega arith) h in
+          let l : 64 ≤ x = leb-true _ _ (and-left (leb firstNonterminal x) (ltb x (symbols img)) f) in
+          let m : x < 64 + nonterminals img = ltb-true _ _ (and-right (leb firstNonterminal x) (ltb x (symbols img)) f) in
+          let z : 64 + (x - firstNonterminal) ≡ x = omega arith in
+          let a : Edge img s (64 + (x - firstNonterminal)) v = goes {n = x - firstNonterminal} ls (omega arith) h in
           rw z at a
       gone false f h = absurd (omega arith)
 
       go : (b : Bool) → ltb x (terminals img) ≡ b
-          → elim b as (λ c. ℕ) [ true ↦ shiftOf (act img s x) | false ↦ elim (leb 64 x && ltb x (symbols img)) [ true ↦ goto img s (x - 64) | false ↦ 0 ] ] ≡ 1 + v → Edge img s x v
+          → elim b as (λ c. ℕ) [ true ↦ shiftOf (act img s x) | false ↦ elim (leb firstNonterminal x && ltb x (symbols img)) [ true ↦ goto img s (x - firstNonterminal) | false ↦ 0 ] ] ≡ 1 + v → Edge img s x v
       go true f h = shifts ls (ltb-true _ _ f) (shift-code _ _ h)
-      go false f h = gone (leb 64 x && ltb x (symbols img)) refl h
+      go false f h = gone (leb firstNonterminal x && ltb x (symbols img)) refl h
 
   pub edge-is : {s x v : ℕ} → Edge img s x v → isEdge img s x v ≡ true
   unfolding isEdge edgeTo

@@ -2,3 +2,4 @@ pub mod Answers
 pub mod Decides
 pub mod EdgeLaws
 pub mod TestLaws
+pub mod WalkLaws

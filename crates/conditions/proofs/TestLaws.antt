@@ -21,6 +21,12 @@ pub not-true : (b : Bool) → (b ≡ true → ⊥) → b ≡ false
 not-true true h = absurd (h refl)
 not-true false h = refl
 
+-- Two tests that ask the same are the same.
+pub alike : (a b : Bool) → (a ≡ true → b ≡ true) → (b ≡ true → a ≡ true) → a ≡ b
+alike true b h k = sym (h refl)
+alike false true h k = k refl
+alike false false h k = refl
+
 -- Both, and one that asks the other.
 pub and-left : (a b : Bool) → (a && b) ≡ true → a ≡ true
 and-left true b e = refl
@@ -94,6 +100,13 @@ some-true (suc n) test i l e = go (some-true n test i) (someBelow n test) refl (
     go ih true t c g = simp t
     go ih false t true g = false-true (sym t ∙ ih (ltb-true i n g) e)
     go ih false t false g = let z : i ≡ n = omega (arith, ltb-false i n g) in simp (t, ← z) e
+
+-- One test of all fails, or none of some holds.
+pub all-false : (n : ℕ) (test : ℕ → Bool) (i : ℕ) → i < n → test i ≡ false → allBelow n test ≡ false
+all-false n test i l e = not-true _ (λ a. false-true (sym e ∙ all-each n test a i l))
+
+pub some-false : (n : ℕ) (test : ℕ → Bool) → ((i : ℕ) → i < n → test i ≡ false) → someBelow n test ≡ false
+some-false n test h = not-true _ (λ a. let r = some-one n test a in false-true (sym (h (r .0) (r .1)) ∙ r .2))
 
 -- Terminals of sets, of any width.
 pub below-power : (x : ℕ) → x < 2 ^ x

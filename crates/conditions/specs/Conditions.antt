@@ -58,8 +58,11 @@ pub record K3 (img : List ℕ) (s q : ℕ) : Type 0 where
 unfoldable pub isGroup : List ℕ → ℕ → Bool
 isGroup img set = someBelow (groups img) (λ g. eqb (groupSet img g) set)
 
+unfoldable pub settled : List ℕ → ℕ → ℕ → Bool
+settled img q v = let both = meet (acc img q) v in implies (several both) (isGroup img both)
+
 unfoldable pub k3 : List ℕ → ℕ → ℕ → Bool
-k3 img s q = let both = meet (acc img q) (validSet img s) in implies (several both) (isGroup img both)
+k3 img s q = settled img q (validSet img s)
 
 -- K4 of parse state v: no edge leads to state 0, and all edges into v carry one symbol.
 pub record K4 (img : List ℕ) (v : ℕ) : Type 0 where

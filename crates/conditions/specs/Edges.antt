@@ -5,7 +5,7 @@ use mathlib.Core.Bool.{Bool, true, false, _&&_}
 use mathlib.Core.List.{List}
 use Prim.Native.Nat.{ℕ, zero, suc, _+_, _*_, _-_, _/_, _%_, _<_}
 use lib.Dec.{eqb, leb, ltb}
-use Rattle.pack.specs.Image.{terminals, nonterminals, states, act, goto, ofNonterminal}
+use Rattle.pack.specs.Image.{terminals, nonterminals, states, act, goto, firstNonterminal, ofNonterminal}
 use Rattle.conditions.specs.Tests.{allBelow, someBelow, implies}
 
 -- An edge leads from parse state s, on a symbol, to v.
@@ -18,9 +18,9 @@ pub data Back (img : List ℕ) (s : ℕ) : ℕ → ℕ → Type 0 where
   here : Back img s 0 s
   along : {i u v x : ℕ} → Back img s i v → Edge img u x v → Back img s (suc i) u
 
--- Symbols are numbers below 64 + N. Those that are neither a terminal nor a nonterminal carry no edge.
+-- Every symbol is below this number. Numbers below it that are neither a terminal's nor a nonterminal's carry no edge.
 abbrev pub symbols : List ℕ → ℕ
-symbols img = 64 + nonterminals img
+symbols img = ofNonterminal (nonterminals img)
 
 -- Where a code of the action table shifts to: 1 + s for a shift to state s, and 0 for any other code.
 unfoldable pub shiftOf : ℕ → ℕ
@@ -31,7 +31,7 @@ unfoldable pub edgeTo : List ℕ → ℕ → ℕ → ℕ
 edgeTo img s x =
     elim (ltb x (terminals img)) [
       | true ↦ shiftOf (act img s x)
-      | false ↦ elim (leb 64 x && ltb x (symbols img)) [ true ↦ goto img s (x - 64) | false ↦ 0 ]
+      | false ↦ elim (leb firstNonterminal x && ltb x (symbols img)) [ true ↦ goto img s (x - firstNonterminal) | false ↦ 0 ]
     ]
 
 -- There is an edge from s to v on symbol x; one from s to v; one on x into v.
