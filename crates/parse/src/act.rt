@@ -170,7 +170,7 @@ fn reduce(
     put(
         tree,
         n * RECORD_WORDS,
-        narrow(pack::FIRST_NONTERMINAL + lhs),
+        narrow(pack::image::FIRST_NONTERMINAL + lhs),
         narrow(p),
         narrow(len),
         uncovered,

@@ -43,7 +43,7 @@ pub fn parse(img: &[u16], text: &[u8], tree: &mut [u16], allowance: u32) -> Pars
     }
     let v = shape::shape(img);
     if shape::is_wrong(v) {
-        return refusal(numbers::WRONG_SHAPE, shape::place_of(v));
+        return refusal(numbers::WRONG_SHAPE, shape::verdict_place(v));
     }
     run::run(img, text, tree, allowance)
 }
@@ -66,7 +66,7 @@ pub fn leaf_part(text: &[u8], terminal: u16, start: u16, size: u16, state: u16) 
     if terminal < 1 {
         return none;
     }
-    if pack::FIRST_NONTERMINAL <= wide(terminal) {
+    if pack::image::FIRST_NONTERMINAL <= wide(terminal) {
         return none;
     }
     let from = wide(start);
