@@ -6,7 +6,7 @@ use Prim.Native.Nat.{ℕ}
 use Rattle.numbers.specs.Codes.{wrongShape}
 use Rattle.shape.specs.declared.Verdict.{Verdict}
 use Rattle.shape.specs.declared.Verdict.the-variants.{Good, Wrong}
-use Rattle.shape.specs.Shape.{isWrong, placeOf, shape}
+use Rattle.shape.specs.Shape.{isWrong, verdictPlace, shape}
 use Rattle.shape.proofs.Laws.{is-good, is-wrong}
 use Rattle.conditions.specs.declared.Checked.{Checked}
 use Rattle.conditions.specs.declared.Finding.{Finding}
@@ -47,16 +47,16 @@ module _ (c : Condition) (img : List ℕ) {f : Finding} (e : f ≡ find c img) w
   last-here h = rw (← e) h
 
 -- The check, after shape.
-pub check-wrong : (img : List ℕ) {v : Verdict} {place : ℕ} → v ≡ shape img → isWrong v ≡ true → place ≡ placeOf v
+pub check-wrong : (img : List ℕ) {v : Verdict} {place : ℕ} → v ≡ shape img → isWrong v ≡ true → place ≡ verdictPlace v
     → record { code = wrongShape; number = place; first = 0; second = 0 } ≡ check img
-unfolding check checkAll placeOf
+unfolding check checkAll verdictPlace
 check-wrong img {v} {place} e w f =
     let q = is-wrong v w in
     let z : shape img ≡ Wrong (q .0) = sym e ∙ q .1 in
     let y : place ≡ q .0 = f ∙ placed v (q .0) (q .1) in
     simp (check, checkAll, z, y)
   where
-    placed : (u : Verdict) (p : ℕ) → u ≡ Wrong p → placeOf u ≡ p
+    placed : (u : Verdict) (p : ℕ) → u ≡ Wrong p → verdictPlace u ≡ p
     placed u p h = rw h
 
 pub check-good : (img : List ℕ) {v : Verdict} {r : Checked} → v ≡ shape img → isWrong v ≡ false → r ≡ firstFailing img plain → r ≡ check img

@@ -98,7 +98,7 @@ pub fn check(img: &[u16]) -> Checked
     if shape::is_wrong(v) {
         return Checked {
             code: numbers::WRONG_SHAPE,
-            number: shape::place_of(v),
+            number: shape::verdict_place(v),
             first: 0,
             second: 0,
         };

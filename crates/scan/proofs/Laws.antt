@@ -4,51 +4,84 @@ use mathlib.Core.Path.{_≡_, refl, sym, ap, _∙_}
 use mathlib.Core.List.{List, [], _∷_}
 use mathlib.Core.Bool.{true, false}
 use Prim.Native.Nat.{ℕ, zero, suc, _+_, _-_, _<_, _≤_, min}
+use native.Mathlib.Nat.{sub-zero}
 use native.Mathlib.Omega.{arith}
 use native.Mathlib.Numerals.{add-one}
 use lib.ListN.{length, getD, take, drop, length-drop, drop-of-length-le}
-use lib.Seq.{drop-cons, take-all}
+use lib.Seq.{drop-cons, drop-drop, take-all}
 use lib.Bits.{bitAnd}
-use borrow.Author.Tests.{eq-eqb, ne-eqb, le-leb, lt-leb, lt-ltb, le-ltb}
+use borrow.Author.Tests.{eq-eqb, ne-eqb, lt-ltb, le-ltb}
 use Rattle.sets.specs.Sets.{isEmpty}
 use Rattle.shape.specs.declared.Verdict.{Verdict}
 use Rattle.numbers.specs.Codes.{queryTooLong, wrongShape}
 use Rattle.pack.specs.Image.{classOf, move, acc, rej, poss, allButEnd}
-use Rattle.shape.specs.Shape.{isWrong, placeOf, shape}
+use Rattle.shape.specs.Shape.{isWrong, verdictPlace, shape}
 use Rattle.shape.proofs.Laws.{is-good, is-wrong}
 use Rattle.scan.specs.declared.Remembered.{Remembered}
 use Rattle.scan.specs.declared.Stop.{Stop}
-use Rattle.scan.specs.Scan.{remember, stopped, usedUp, scanFrom, scan, codeOf, refused, scanAlone}
+use Rattle.scan.specs.Scan.{nothing, remember, stopped, usedUp, moveOn, onward, scanFrom, scan, stopCode, refused, scanAlone}
 
-module _ (img : List ℕ) (v allowance : ℕ) (bytes : List ℕ) (q n : ℕ) (kept : Remembered) where
-  pub ends : length bytes ≤ n → scanFrom img v allowance (drop n bytes) q n kept ≡ stopped kept n
-  unfolding scanFrom
-  ends h = rw (drop-of-length-le bytes h)
+-- A set that is not empty is remembered.
+remembered : (a r n : ℕ) (kept : Remembered) → (a ≡ 0 → ⊥) → remember a r n kept ≡ record { set = a; length = n }
+unfolding remember isEmpty
+remembered a r n kept h = simp (remember, isEmpty, ne-eqb _ _ h)
 
-  module _ (h : n < length bytes) {p : ℕ} (e : p ≡ poss img q) where
-    pub nothing-possible : bitAnd p v ≡ 0 → scanFrom img v allowance (drop n bytes) q n kept ≡ stopped kept n
-    unfolding scanFrom isEmpty
-    nothing-possible t = rw (drop-cons bytes n 0 h) (simp (scanFrom, isEmpty, ← e, eq-eqb _ _ t))
+-- A stop, whatever is left of the allowance.
+pub stops : (img : List ℕ) (v left : ℕ) (bytes : List ℕ) (q n : ℕ) (kept : Remembered) → onward img v q bytes ≡ 0 → scanFrom img v left bytes q n kept ≡ stopped kept n
+unfolding scanFrom
+stops img v zero bytes q n kept e = simp (scanFrom, e)
+stops img v (suc left) bytes q n kept e = simp (scanFrom, e)
 
-    module _ (s : bitAnd p v ≡ 0 → ⊥) {to : ℕ} (g : to ≡ move img q (classOf img (getD bytes n 0))) where
-      pub no-move : to ≡ 0 → scanFrom img v allowance (drop n bytes) q n kept ≡ stopped kept n
-      unfolding scanFrom isEmpty
-      no-move t = rw (drop-cons bytes n 0 h) (simp (scanFrom, isEmpty, ← e, ne-eqb _ _ s, ← g, t))
+-- The whole scan, as the code begins it.
+pub begins : (img : List ℕ) (v allowance : ℕ) (bytes : List ℕ) → scan img v allowance bytes ≡ scanFrom img v (allowance - 0) bytes 0 0 nothing
+begins img v allowance bytes = rw (sub-zero allowance)
+
+-- The scan in state q after n moves, over the rest of the bytes.
+module _ (img : List ℕ) (v allowance : ℕ) (bytes : List ℕ) (q n : ℕ) (kept : Remembered) {p : ℕ} (e : p ≡ poss img q) where
+  pub nothing-possible : bitAnd p v ≡ 0 → scanFrom img v (allowance - n) (drop n bytes) q n kept ≡ stopped kept n
+  unfolding onward isEmpty
+  nothing-possible t = stops img v (allowance - n) (drop n bytes) q n kept (simp (onward, isEmpty, ← e, eq-eqb _ _ t))
+
+  module _ (s : bitAnd p v ≡ 0 → ⊥) where
+    pub no-byte : length bytes ≤ n → scanFrom img v (allowance - n) (drop n bytes) q n kept ≡ stopped kept n
+    unfolding onward moveOn isEmpty
+    no-byte h = stops img v (allowance - n) (drop n bytes) q n kept (rw (drop-of-length-le bytes h) (simp (onward, isEmpty, ← e, ne-eqb _ _ s)))
+
+    module _ (h : n < length bytes) {to : ℕ} (g : to ≡ move img q (classOf img (getD bytes n 0))) where
+      moving : onward img v q (drop n bytes) ≡ to
+      unfolding onward moveOn isEmpty
+      moving = rw (drop-cons bytes n 0 h) (simp (onward, moveOn, isEmpty, ← e, ne-eqb _ _ s, ← g))
+
+      pub no-move : to ≡ 0 → scanFrom img v (allowance - n) (drop n bytes) q n kept ≡ stopped kept n
+      no-move t = stops img v (allowance - n) (drop n bytes) q n kept (moving ∙ t)
 
       module _ (t : to ≡ 0 → ⊥) where
-        pub used-up : allowance ≤ n → scanFrom img v allowance (drop n bytes) q n kept ≡ usedUp n
-        unfolding scanFrom isEmpty
+        one-more : to ≡ suc (to - 1)
+        one-more = omega arith
+
+        pub used-up : allowance ≤ n → scanFrom img v (allowance - n) (drop n bytes) q n kept ≡ usedUp n
+        unfolding scanFrom
         used-up k =
-            let z : to ≡ suc (to - 1) = omega arith in
-            rw (drop-cons bytes n 0 h) (simp (scanFrom, isEmpty, ← e, ne-eqb _ _ s, sym g ∙ z, le-leb _ _ k))
+            let z : allowance - n ≡ 0 = omega arith in
+            rw z (simp (scanFrom, moving ∙ one-more))
 
         pub moves-on : {a r : ℕ} {now : Remembered} → n < allowance → a ≡ acc img (to - 1) → r ≡ rej img (to - 1)
             → now ≡ remember (bitAnd a v) (bitAnd r v) (n + 1) kept
-            → scanFrom img v allowance (drop n bytes) q n kept ≡ scanFrom img v allowance (drop (n + 1) bytes) (to - 1) (n + 1) now
-        unfolding scanFrom isEmpty
+            → scanFrom img v (allowance - n) (drop n bytes) q n kept ≡ scanFrom img v (allowance - (n + 1)) (drop (n + 1) bytes) (to - 1) (n + 1) now
+        unfolding scanFrom
         moves-on k ea er em =
-            let z : to ≡ suc (to - 1) = omega arith in
-            rw (drop-cons bytes n 0 h, ← add-one n) (simp (scanFrom, isEmpty, ← e, ne-eqb _ _ s, sym g ∙ z, lt-leb _ _ k, ← ea, ← er, ← em))
+            let z : allowance - n ≡ suc (allowance - (n + 1)) = omega arith in
+            rw z (simp (scanFrom, moving ∙ one-more, ← ea, ← er, ← em, drop-drop 1 n bytes))
+
+-- A match from which nothing valid is possible ends the scan.
+pub ends-here : (img : List ℕ) (v allowance : ℕ) (bytes : List ℕ) (q n : ℕ) (kept : Remembered) {p : ℕ} → p ≡ poss img q → (bitAnd p v ≡ 0 → ⊥) → n < length bytes
+    → {to : ℕ} → to ≡ move img q (classOf img (getD bytes n 0)) → (to ≡ 0 → ⊥) → n < allowance → {a p′ : ℕ} → a ≡ acc img (to - 1) → (bitAnd a v ≡ 0 → ⊥)
+    → p′ ≡ poss img (to - 1) → bitAnd p′ v ≡ 0
+    → scanFrom img v (allowance - n) (drop n bytes) q n kept ≡ record { spent = false; set = bitAnd a v; length = n + 1; moves = n + 1 }
+ends-here img v allowance bytes q n kept e s h {to} g t k {a} ea na ep np =
+    moves-on img v allowance bytes q n kept e s h g t k ea refl refl
+    ∙ (nothing-possible img v allowance bytes (to - 1) (n + 1) _ ep np
+    ∙ ap (λ (w : Remembered). stopped w (n + 1)) (remembered (bitAnd a v) (bitAnd (rej img (to - 1)) v) (n + 1) kept na))
 
 -- "the rest of the text from the place on", as the code takes it.
 pub rest-of : (text : List ℕ) (place : ℕ) → take (length text - place) (drop place text) ≡ drop place text
@@ -61,14 +94,14 @@ module _ (img text : List ℕ) (start set allowance : ℕ) where
   alone-long h = simp (scanAlone, lt-ltb _ _ h)
 
   module _ (h : length text ≤ 65535) {v : Verdict} (e : v ≡ shape img) where
-    pub alone-wrong : {p : ℕ} → isWrong v ≡ true → p ≡ placeOf v → refused wrongShape p ≡ scanAlone img text start set allowance
-    unfolding scanAlone placeOf
+    pub alone-wrong : {p : ℕ} → isWrong v ≡ true → p ≡ verdictPlace v → refused wrongShape p ≡ scanAlone img text start set allowance
+    unfolding scanAlone verdictPlace
     alone-wrong w ep =
         let q = is-wrong v w in
-        simp (scanAlone, le-ltb _ _ h, sym e ∙ q .1) (ap (refused wrongShape) (ep ∙ ap placeOf (q .1)))
+        simp (scanAlone, le-ltb _ _ h, sym e ∙ q .1) (ap (refused wrongShape) (ep ∙ ap verdictPlace (q .1)))
 
     pub alone-scan : {p t k : ℕ} {rest : List ℕ} {stop : Stop} → isWrong v ≡ false → p ≡ min start (length text) → t ≡ allButEnd img → rest ≡ drop p text
-        → stop ≡ scan img (bitAnd set t) allowance rest → k ≡ codeOf (stop .spent)
+        → stop ≡ scan img (bitAnd set t) allowance rest → k ≡ stopCode (stop .spent)
         → record { code = k; place = p; set = stop .set; length = stop .length; moves = stop .moves } ≡ scanAlone img text start set allowance
     unfolding scanAlone
     alone-scan g ep et er es ek = simp (scanAlone, le-ltb _ _ h, sym e ∙ is-good v g, ← ep, ← et, ← er, ← es, ← ek)

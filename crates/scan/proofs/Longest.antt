@@ -22,7 +22,7 @@ use Rattle.scan.specs.declared.Stop.{Stop}
 use Rattle.scan.specs.Scan.{nothing, remember, stopped, usedUp, scanFrom, scan}
 use Rattle.scan.specs.Matching.{ledFrom, Leads, Last}
 use Rattle.conditions.specs.Conditions.{Subset, matched, Outranked, K1, K2}
-use Rattle.scan.proofs.Theory.{Way, nowhere, no-way, spent, goes, way}
+use Rattle.scan.proofs.Theory.{Way, nowhere, no-way, spent, goes, way, at-end}
 
 -- What is in neither of two sets is not in their union, and the other way round.
 union-none : (k a r v : ℕ) → a < 2 ^ k → r < 2 ^ k → bitAnd (bitOr a r) v ≡ 0 → (bitAnd a v ≡ 0) × (bitAnd r v ≡ 0)
@@ -171,15 +171,14 @@ module _ (img : List ℕ) (good : shape img ≡ Good) (k2 : (q : ℕ) → q < sc
             all (suc zero) s h w g = rw (first s g) at (eqb-true (bitAnd (matched img p) v) 0 f)
             all (suc (suc m)) s h w g = none-after (suc (suc m)) s (omega arith) w g
 
-    ends : (bytes : List ℕ) (q n : ℕ) (kept : Remembered) → q < scanStates img → scanFrom img v allowance bytes q n kept .spent ≡ false
-        → Result bytes q n kept (scanFrom img v allowance bytes q n kept)
-    unfolding scanFrom
-    ends [] q n kept l e = none (λ m p h w. absurd (omega arith)) refl refl
-    ends (b ∷ bytes) q n kept l e = go (ends bytes) (way img v allowance b bytes q n kept) e
+    ends : (bytes : List ℕ) (left q n : ℕ) (kept : Remembered) → q < scanStates img → scanFrom img v left bytes q n kept .spent ≡ false
+        → Result bytes q n kept (scanFrom img v left bytes q n kept)
+    ends [] left q n kept l e = rw (at-end img v left q n kept) (none (λ m p h w. absurd (omega arith)) refl refl)
+    ends (b ∷ bytes) left q n kept l e = go (ends bytes) (way img v left b bytes q n kept) e
       where
-        go : ((r k : ℕ) (w : Remembered) → r < scanStates img → scanFrom img v allowance bytes r k w .spent ≡ false → Result bytes r k w (scanFrom img v allowance bytes r k w))
-            → Way img v allowance b bytes q n kept → scanFrom img v allowance (b ∷ bytes) q n kept .spent ≡ false
-            → Result (b ∷ bytes) q n kept (scanFrom img v allowance (b ∷ bytes) q n kept)
+        go : ((k r m : ℕ) (w : Remembered) → r < scanStates img → scanFrom img v k bytes r m w .spent ≡ false → Result bytes r m w (scanFrom img v k bytes r m w))
+            → Way img v left b bytes q n kept → scanFrom img v left (b ∷ bytes) q n kept .spent ≡ false
+            → Result (b ∷ bytes) q n kept (scanFrom img v left (b ∷ bytes) q n kept)
         go ih (nowhere f g) s = rw g (none (λ m p h w. nothing-later (take m (b ∷ bytes)) q p l f) refl refl)
         go ih (no-way f g) s = rw g (none (λ m p. never m p) refl refl)
           where
@@ -187,10 +186,10 @@ module _ (img : List ℕ) (good : shape img ≡ Good) (k2 : (q : ℕ) → q < sc
             never zero p h w x = absurd (omega arith)
             never (suc m) p h w x = absurd (omega (arith, sym (no-led b (take m bytes) q f) ∙ x))
         go ih (spent f g) s = let z : _≡_ {A = ℕ} 0 1 = cc (ap (λ (t : Stop). t .spent) g) in absurd (omega arith)
-        go ih (goes p f m g) s =
+        go ih (goes less p f m g) s =
             rw g
             (ahead b bytes q n p kept _ l m
-            (ih p (n + 1) (remember (bitAnd (acc img p) v) (bitAnd (rej img p) v) (n + 1) kept) (next-below q b p l m) (sym (ap (λ (t : Stop). t .spent) g) ∙ s)))
+            (ih less p (n + 1) (remember (bitAnd (acc img p) v) (bitAnd (rej img p) v) (n + 1) kept) (next-below q b p l m) (sym (ap (λ (t : Stop). t .spent) g) ∙ s)))
 
     -- A last place is past the first byte, since scan state 0 accepts and rejects nothing.
     some-bytes : (bytes : List ℕ) (n q : ℕ) → Last img bytes v n q → 1 ≤ n
@@ -209,7 +208,7 @@ module _ (img : List ℕ) (good : shape img ≡ Good) (k2 : (q : ℕ) → q < sc
     -- A match ends at the last place, and is what is accepted of the valid set there.
     pub match-is-last : (bytes : List ℕ) → scan img v allowance bytes .spent ≡ false → (scan img v allowance bytes .set ≡ 0 → ⊥)
         → (q : ℕ) × Last img bytes v (scan img v allowance bytes .length) q × (scan img v allowance bytes .set ≡ bitAnd (acc img q) v)
-    match-is-last bytes e h = go (ends bytes 0 0 nothing (omega (arith, good-laid img good)) e)
+    match-is-last bytes e h = go (ends bytes allowance 0 0 nothing (omega (arith, good-laid img good)) e)
       where
         go : Result bytes 0 0 nothing (scan img v allowance bytes)
             → (q : ℕ) × Last img bytes v (scan img v allowance bytes .length) q × (scan img v allowance bytes .set ≡ bitAnd (acc img q) v)
@@ -224,7 +223,7 @@ module _ (img : List ℕ) (good : shape img ≡ Good) (k2 : (q : ℕ) → q < sc
     -- Where there is no match, the last place, if there is one, only rejects.
     pub no-match-rejects : (bytes : List ℕ) → scan img v allowance bytes .spent ≡ false → scan img v allowance bytes .set ≡ 0
         → (n q : ℕ) → Last img bytes v n q → bitAnd (acc img q) v ≡ 0
-    no-match-rejects bytes e h n q l = go (ends bytes 0 0 nothing (omega (arith, good-laid img good)) e)
+    no-match-rejects bytes e h n q l = go (ends bytes allowance 0 0 nothing (omega (arith, good-laid img good)) e)
       where
         go : Result bytes 0 0 nothing (scan img v allowance bytes) → bitAnd (acc img q) v ≡ 0
         go (none f es el) = absurd (l .here (f n q (some-bytes bytes n q l) (l .within) (l .leads .way)))

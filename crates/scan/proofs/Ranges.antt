@@ -13,7 +13,7 @@ use Rattle.shape.specs.declared.Verdict.the-variants.{Good}
 use Rattle.pack.specs.Image.{ranges, lo, hi, rangeClass, classIn}
 use Rattle.shape.specs.Shape.{shape}
 use Rattle.shape.proofs.Good.{good-range, good-above}
-use Rattle.scan.specs.Classed.{Filled}
+use Rattle.scan.specs.Ready.{Filled}
 
 module _ (img : List ℕ) (b : ℕ) where
   -- One range more, which does not hold the byte.

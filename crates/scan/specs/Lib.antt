@@ -1,4 +1,4 @@
-pub mod Classed
 pub mod Matching
+pub mod Ready
 pub mod Scan
 pub mod Token

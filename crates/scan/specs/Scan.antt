@@ -2,7 +2,7 @@
 use mathlib.Core.Bool.{Bool, true, false}
 use mathlib.Core.List.{List, [], _∷_}
 use Prim.Native.Nat.{ℕ, zero, suc, _+_, _-_, min}
-use lib.Dec.{leb, ltb}
+use lib.Dec.{ltb}
 use lib.ListN.{length, drop}
 use Rattle.sets.specs.Sets.{meet, isEmpty}
 use Rattle.shape.specs.declared.Verdict.{Verdict}
@@ -34,23 +34,27 @@ stopped kept n = record { spent = false; set = kept .set; length = kept .length;
 abbrev pub usedUp : ℕ → Stop
 usedUp n = record { spent = true; set = 0; length = 0; moves = n }
 
--- The scan in state q after n moves, each of which took one byte, over the bytes that are left: "Stop if poss ∩ V is empty, or no byte is left,
--- or there is no move. Otherwise take the move, which counts 1", and look at the new state.
+-- The move on the next byte: 0 where no byte is left, or there is no move; else 1 more than the state moved to.
+unfoldable pub moveOn : List ℕ → ℕ → List ℕ → ℕ
+moveOn img q [] = 0
+moveOn img q (b ∷ bytes) = move img q (classOf img b)
+
+-- The three stops, in this order: nothing valid is possible any more, no byte is left, there is no move. 0 for a stop, else 1 more
+-- than the state that the scan goes on to.
+unfoldable pub onward : List ℕ → ℕ → ℕ → List ℕ → ℕ
+onward img v q bytes = elim (isEmpty (meet (poss img q) v)) [ true ↦ 0 | false ↦ moveOn img q bytes ]
+
+-- The scan in state q after n moves, each of which took one byte, with so many moves left of the allowance, over the bytes that are
+-- left. A stop comes before the allowance is asked for: only a move that would be taken can be beyond it.
 unfoldable pub scanFrom : List ℕ → ℕ → ℕ → List ℕ → ℕ → ℕ → Remembered → Stop
-scanFrom img v allowance [] q n kept = stopped kept n
-scanFrom img v allowance (b ∷ bytes) q n kept =
-    elim (isEmpty (meet (poss img q) v)) [
-      | true ↦ stopped kept n
-      | false ↦ elim (move img q (classOf img b)) [
-        | zero ↦ stopped kept n
-        | suc p ↦ elim (leb allowance n) [
-          | true ↦ usedUp n
-          | false ↦ scanFrom img v allowance bytes p (n + 1) (remember (meet (acc img p) v) (meet (rej img p) v) (n + 1) kept)
-        ]
-      ]
+scanFrom img v zero bytes q n kept = elim (onward img v q bytes) [ zero ↦ stopped kept n | suc p ↦ usedUp n ]
+scanFrom img v (suc left) bytes q n kept =
+    elim (onward img v q bytes) [
+      | zero ↦ stopped kept n
+      | suc p ↦ scanFrom img v left (drop 1 bytes) p (n + 1) (remember (meet (acc img p) v) (meet (rej img p) v) (n + 1) kept)
     ]
 
--- One scan: "a valid set V without bit 0, and the rest of the text from the place on. Begin in scan state 0."
+-- One scan with a valid set V, which lacks bit 0, over the rest of the text from the place on. It begins in scan state 0.
 abbrev pub scan : List ℕ → ℕ → ℕ → List ℕ → Stop
 scan img v allowance bytes = scanFrom img v allowance bytes 0 0 nothing
 
@@ -59,16 +63,16 @@ abbrev pub refused : ℕ → ℕ → Scanned
 refused code place = record { code = code; place = place; set = 0; length = 0; moves = 0 }
 
 -- 13 where the allowance was used up, else 0.
-unfoldable pub codeOf : Bool → ℕ
-codeOf true = allowanceUsedUp
-codeOf false = done
+unfoldable pub stopCode : Bool → ℕ
+stopCode true = allowanceUsedUp
+stopCode false = done
 
 -- Its answer for what a scan from the place gives: 13 or 0. "With 0 the place is the start, and set and length are 0
 -- for no match."
 abbrev pub answer : ℕ → Stop → Scanned
 answer place stop =
     record {
-      code = codeOf (stop .spent);
+      code = stopCode (stop .spent);
       place = place;
       set = stop .set;
       length = stop .length;

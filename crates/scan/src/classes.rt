@@ -2,11 +2,11 @@
 use pack::image;
 ghost use mathlib.Core.Path.{_≡_};
 ghost use Prim.Native.Nat.{_<_, _≤_};
-ghost use lib.ListN.{getD};
 ghost use Rattle.shape.specs.declared.Verdict.the-variants.{Good};
 ghost use Rattle.pack.specs.Laid.{Laid};
 ghost use Rattle.shape.specs.Shape.{shape};
-ghost use Rattle.scan.specs.Classed.{Classed, Filled};
+ghost use Rattle.pack.specs.Image.{classes, classOf};
+ghost use Rattle.scan.specs.Ready.{Ready, Filled};
 
 fn wide(x: u8) -> usize
     ensures { λ r. ⌜ r ≡ x ⌝ }
@@ -14,9 +14,10 @@ fn wide(x: u8) -> usize
     x as usize
 }
 
-// The class of a byte, read off the row.
-pub fn class_of(row: &[u8; 256], b: u8) -> usize
-    ensures { λ r. ⌜ r ≡ getD (now (row .entry)) b 0 ⌝ }
+// The class of a byte.
+pub fn class_of(img: &[u16], row: &[u8; 256], b: u8) -> usize
+    requires { ⌜ Ready (now img) (now row) ⌝ }
+    ensures { λ r. ⌜ (r ≡ classOf (now (img .entry)) b) × (r < classes (now (img .entry))) ⌝ }
 {
     let i = wide(b);
     wide(row[i])
@@ -38,7 +39,7 @@ fn fill(row: &mut [u8; 256], lo: usize, hi: usize, class: u8)
 pub fn class_row(img: &[u16]) -> [u8; 256]
     requires { ⌜ Laid (now img) ⌝ }
     requires { ⌜ shape (now img) ≡ Good ⌝ }
-    ensures { λ r. ⌜ Classed (now (img .entry)) r ⌝ }
+    ensures { λ r. ⌜ Ready (now (img .entry)) r ⌝ }
 {
     let n = image::ranges(img);
     let mut row = [0u8; 256];

@@ -6,8 +6,8 @@ ghost use Rattle.shape.specs.declared.Verdict.the-variants.{Good};
 ghost use Rattle.pack.specs.Image.{scanStates, move, classOf, allButEnd};
 ghost use Rattle.pack.specs.Laid.{Laid};
 ghost use Rattle.shape.specs.Shape.{shape};
-ghost use Rattle.scan.specs.Classed.{Classed};
-ghost use Rattle.scan.specs.Scan.{remember, scan, codeOf, refused, scanAlone};
+ghost use Rattle.scan.specs.Ready.{Ready};
+ghost use Rattle.scan.specs.Scan.{remember, scan, stopCode, refused, scanAlone};
 use pack::image;
 
 pub mod classes; // classes.rt: the row of 256 classes
@@ -37,7 +37,7 @@ pub struct Scanned {
 }
 
 // What is remembered after move n, into a state that accepts and rejects these of the valid set.
-fn keep(accepted: u64, rejected: u64, n: usize, before: Remembered) -> Remembered
+fn remember(accepted: u64, rejected: u64, n: usize, before: Remembered) -> Remembered
     ensures { λ r. ⌜ r ≡ remember accepted rejected n before ⌝ }
 {
     if accepted != 0 {
@@ -53,27 +53,24 @@ fn keep(accepted: u64, rejected: u64, n: usize, before: Remembered) -> Remembere
 }
 
 // Where scan state q moves on a byte: 0 for nowhere, or 1 more than the state.
-fn next(img: &[u16], row: &[u8; 256], q: usize, b: u8) -> usize
-    requires { ⌜ Laid (now img) ⌝ }
-    requires { ⌜ shape (now img) ≡ Good ⌝ }
-    requires { ⌜ Classed (now img) (now row) ⌝ }
+fn move_on(img: &[u16], row: &[u8; 256], q: usize, b: u8) -> usize
+    requires { ⌜ Ready (now img) (now row) ⌝ }
     requires { ⌜ q < scanStates (now img) ⌝ }
     ensures { λ r. ⌜ (r ≡ move (now (img .entry)) q (classOf (now (img .entry)) b)) × (r ≤ scanStates (now (img .entry))) ⌝ }
 {
-    image::move_of(img, q, classes::class_of(row, b))
+    image::move_of(img, q, classes::class_of(img, row, b))
 }
 
-// One scan over the rest of the text. Inner: its callers have tested the shape and filled the row of classes.
+// One scan over the rest of the text. Inner: its callers have tested the shape and filled the row of classes. A match from which
+// nothing valid is possible is given back at once: its length then does not wait for what was remembered before it.
 pub fn one_scan(img: &[u16], row: &[u8; 256], v: u64, allowance: usize, bytes: &[u8]) -> Stop
-    requires { ⌜ Laid (now img) ⌝ }
-    requires { ⌜ shape (now img) ≡ Good ⌝ }
-    requires { ⌜ Classed (now img) (now row) ⌝ }
+    requires { ⌜ Ready (now img) (now row) ⌝ }
     ensures { λ r. ⌜ r ≡ scan (now (img .entry)) v allowance (now (bytes .entry)) ⌝ }
 {
     let mut q: usize = 0;
     let mut n: usize = 0;
     let mut kept = Remembered { set: 0, length: 0 };
-    while n < bytes.len() {
+    loop {
         if image::poss(img, q) & v == 0 {
             return Stop {
                 spent: false,
@@ -82,7 +79,15 @@ pub fn one_scan(img: &[u16], row: &[u8; 256], v: u64, allowance: usize, bytes: &
                 moves: n,
             };
         }
-        let to = next(img, row, q, bytes[n]);
+        if bytes.len() <= n {
+            return Stop {
+                spent: false,
+                set: kept.set,
+                length: kept.length,
+                moves: n,
+            };
+        }
+        let to = move_on(img, row, q, bytes[n]);
         if to == 0 {
             return Stop {
                 spent: false,
@@ -101,13 +106,18 @@ pub fn one_scan(img: &[u16], row: &[u8; 256], v: u64, allowance: usize, bytes: &
         }
         q = to - 1;
         n += 1;
-        kept = keep(image::acc(img, q) & v, image::rej(img, q) & v, n, kept);
-    }
-    Stop {
-        spent: false,
-        set: kept.set,
-        length: kept.length,
-        moves: n,
+        let accepted = image::acc(img, q) & v;
+        if accepted != 0 {
+            if image::poss(img, q) & v == 0 {
+                return Stop {
+                    spent: false,
+                    set: accepted,
+                    length: n,
+                    moves: n,
+                };
+            }
+        }
+        kept = remember(accepted, image::rej(img, q) & v, n, kept);
     }
 }
 
@@ -124,25 +134,25 @@ pub fn all_but_end(img: &[u16]) -> u64
 }
 
 // The code of a scan that stopped.
-fn code_of(spent: bool) -> u8
-    ensures { λ r. ⌜ r ≡ codeOf spent ⌝ }
+fn stop_code(spent: bool) -> u8
+    ensures { λ r. ⌜ r ≡ stopCode spent ⌝ }
 {
     if spent {
-        return 13;
+        return numbers::ALLOWANCE_USED_UP;
     }
-    0
+    numbers::DONE
 }
 
 // The scan called by itself. It asks nothing: a start past the text counts as its end, and what is no token is dropped from the set.
 pub fn scan(img: &[u16], text: &[u8], start: usize, set: u64, allowance: u32) -> Scanned
     ensures { λ r. ⌜ r ≡ scanAlone (now (img .entry)) (now (text .entry)) start set allowance ⌝ }
 {
-    if 65535 < text.len() {
-        return refusal(6, 0);
+    if numbers::LONGEST_TEXT < text.len() {
+        return refusal(numbers::QUERY_TOO_LONG, 0);
     }
     let v = shape::shape(img);
     if shape::is_wrong(v) {
-        return refusal(4, shape::place_of(v));
+        return refusal(numbers::WRONG_SHAPE, shape::verdict_place(v));
     }
     let place = within(start, text.len());
     let row = classes::class_row(img);
@@ -154,7 +164,7 @@ pub fn scan(img: &[u16], text: &[u8], start: usize, set: u64, allowance: u32) ->
         &text[place..],
     );
     Scanned {
-        code: code_of(stop.spent),
+        code: stop_code(stop.spent),
         place,
         set: stop.set,
         length: stop.length,

@@ -9,7 +9,7 @@ use Rattle.checker.proofs.check.Tie as tie
 returns : tie.Need-returns
 returns c =
     let w = c .before .before in
-    check-wrong _ (w .before .shape .ensures) (sym (w .is-wrong .ensures) ∙ c .before .if1 .taken) (c .place-of .ensures)
+    check-wrong _ (w .before .shape .ensures) (sym (w .is-wrong .ensures) ∙ c .before .if1 .taken) (c .verdict-place .ensures)
 
 conditions-requires : tie.Need-conditions-requires
 conditions-requires c κs =

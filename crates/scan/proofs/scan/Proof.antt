@@ -15,7 +15,7 @@ returns-2 c =
     let w = c .before .before .before in
     let s = w .before in
     c .refusal2 .ensures
-    ∙ alone-wrong _ _ _ _ _ (s .before .if1 .left) (s .shape .ensures) (sym (w .is-wrong .ensures) ∙ c .before .before .if2 .taken) (c .before .place-of .ensures)
+    ∙ alone-wrong _ _ _ _ _ (s .before .if1 .left) (s .shape .ensures) (sym (w .is-wrong .ensures) ∙ c .before .before .if2 .taken) (c .before .verdict-place .ensures)
 
 class-row-requires : tie.Need-class-row-requires
 class-row-requires c κs =
@@ -29,14 +29,6 @@ all-but-end-requires c κs =
     let w = i .before in
     good-laid _ (sym (w .before .shape .ensures) ∙ is-good _ (sym (w .is-wrong .ensures) ∙ i .if2 .left))
 
-one-scan-requires : tie.Need-one-scan-requires
-one-scan-requires c κs =
-    let r = c .before .before .before in
-    let i = r .before .before in
-    let w = i .before in
-    let good = sym (w .before .shape .ensures) ∙ is-good _ (sym (w .is-wrong .ensures) ∙ i .if2 .left) in
-    (good-laid _ good, (good, r .class-row .ensures))
-
 returns-3 : tie.Need-returns-3
 returns-3 c =
     let t = c .before .before .before in
@@ -44,9 +36,9 @@ returns-3 c =
     let i = p .before in
     let s = i .before .before in
     alone-scan _ _ _ _ _ (s .before .if1 .left) (s .shape .ensures) (sym (i .before .is-wrong .ensures) ∙ i .if2 .left) (p .within .ensures) (t .all-but-end .ensures)
-    (rest-of (s .before .before .before .before .args .text .now) (p .within .result)) (c .before .one-scan .ensures) (c .code-of .ensures)
+    (rest-of (s .before .before .before .before .args .text .now) (p .within .result)) (c .before .one-scan .ensures) (c .stop-code .ensures)
 
 pub scan-spec : {M : Type 1} → statement M
 scan-spec =
     tie.close
-    (tie.spec (λ c κs. search needs) returns (λ c κs. search needs) (λ c κs. search needs) (λ c κs. search needs) (λ c κs. search needs) returns-2 (λ c κs. search needs) class-row-requires all-but-end-requires (λ c. search needs) (λ c. search needs) (λ c. search needs) one-scan-requires (λ c κs. search needs) returns-3)
+    (tie.spec (λ c κs. search needs) returns (λ c κs. search needs) (λ c κs. search needs) (λ c κs. search needs) (λ c κs. search needs) returns-2 (λ c κs. search needs) class-row-requires all-but-end-requires (λ c. search needs) (λ c. search needs) (λ c. search needs) (λ c κs. c .before .before .before .class-row .ensures) (λ c κs. search needs) returns-3)

@@ -1,9 +1,14 @@
 use borrow.Author.Needs.{needs}
+use mathlib.Core.Path.{_≡_, _∙_}
+use Rattle.shape.proofs.Good.{good-class}
 use Rattle.scan.proofs.classes.class_of.Statement.{statement}
 use Rattle.scan.proofs.classes.class_of.Tie as tie
 
 returns : tie.Need-returns
-returns c = rw (c .before .before .wide .ensures) at (c .wide2 .ensures)
+returns c =
+    let s = c .before .before .before .before in
+    let e = rw (c .before .before .wide .ensures) at (c .wide2 .ensures) ∙ s .pre .classed .each _ (s .fits .b .fits) in
+    (e, rw e (good-class _ (s .pre .good) _))
 
 pub class-of-spec : {M : Type 1} → statement M
 class-of-spec =

@@ -5,7 +5,7 @@ use native.Mathlib.Omega.{arith}
 use lib.ListN.{length, getD}
 use Rattle.pack.specs.Image.{ranges, lo, hi, classIn}
 use Rattle.shape.proofs.Good.{range-class, good-range, good-byte}
-use Rattle.scan.specs.Classed.{Filled}
+use Rattle.scan.specs.Ready.{Classed, Filled}
 use Rattle.scan.proofs.Ranges.{filled-more, nothing-yet}
 use Rattle.scan.proofs.classes.class_row.Statement.{statement}
 use Rattle.scan.proofs.classes.class_row.Tie as tie
@@ -49,8 +49,10 @@ loop-again c =
 returns : tie.Need-returns Inv-loop μ-loop
 returns c =
     let v = c .before .loop .inv in
-    let all : c .before .loop .r ≡ ranges (c .before .before .before .before .args .img .now) = omega arith in
-    record { size = v .2; each = λ b h. v .3 b h ∙ ap (λ (k : ℕ). classIn (c .before .before .before .before .args .img .now) b k 0) all }
+    let s = c .before .before .before .before in
+    let all : c .before .loop .r ≡ ranges (s .args .img .now) = omega arith in
+    let classed : Classed (s .args .img .now) (c .before .loop .row) = record { size = v .2; each = λ b h. v .3 b h ∙ ap (λ (k : ℕ). classIn (s .args .img .now) b k 0) all } in
+    record { laid = s .pre .0; good = s .pre .1; classed = classed }
 
 pub class-row-spec : {M : Type 1} → statement M
 class-row-spec =
