@@ -1,4 +1,4 @@
--- The walk back of K5 (manual, section 4.5) as the code keeps it, worked out once for a parse state s and used for every production.
+-- Manual, section 4.5, for the code: the walk back of K5, worked out once for a parse state s and used for every production.
 use mathlib.Core.Path.{_≡_}
 use mathlib.Core.Bool.{_&&_}
 use mathlib.Core.List.{List}
