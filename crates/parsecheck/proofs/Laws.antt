@@ -14,7 +14,7 @@ use Rattle.pack.specs.Laid.{Laid}
 use Rattle.conditions.specs.Tests.{allBelow, someBelow, implies}
 use Rattle.conditions.specs.Edges.{symbols, leads, enters, onlyOn, reached}
 use Rattle.conditions.specs.Conditions.{k4, reduces, steps, ends, k5, fromStart, k6}
-use Rattle.conditions.proofs.TestLaws.{alike, false-true, not-true, and-left, and-right, and-both, implies-gives, implies-all, all-each, all-true, all-false, some-one, some-true, some-false}
+use Rattle.conditions.proofs.TestLaws.{alike, false-true, and-left, and-right, and-both, implies-gives, implies-all, all-each, all-true, all-false, some-one, some-true, some-false}
 use Rattle.conditions.proofs.EdgeLaws.{enters-by, edge-on}
 use Rattle.edges.specs.Rows.{bitAt, either, allIn, onlyIn, First, Put, joined, Made}
 use Rattle.edges.specs.Tables.{Sources, Carried, Reducers, Goers}

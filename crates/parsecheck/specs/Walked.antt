@@ -1,6 +1,6 @@
--- The walk back of K5 (manual, section 4.5) as the code keeps it, worked out once for a parse state s and used for every production.
+-- Manual, section 4.5, for the code: the walk back of K5, worked out once for a parse state s and used for every production.
 use mathlib.Core.Path.{_≡_}
-use mathlib.Core.Bool.{Bool, true, false, _&&_}
+use mathlib.Core.Bool.{_&&_}
 use mathlib.Core.List.{List}
 use Prim.Native.Nat.{ℕ, _<_, _≤_}
 use lib.Dec.{ltb}

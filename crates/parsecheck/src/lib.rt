@@ -1,7 +1,7 @@
 // The conditions of the parser's tables, K4 to K6: the test of each, and the search for its least places.
 ghost use mathlib.Core.Path.{_≡_};
 ghost use Prim.Native.Nat.{_<_, _≤_};
-ghost use Rattle.pack.specs.Image.{states, productions, len};
+ghost use Rattle.pack.specs.Image.{mostSymbols, states, productions, len};
 ghost use Rattle.pack.specs.Laid.{Laid};
 ghost use Rattle.shape.specs.declared.Verdict.the-variants.{Good};
 ghost use Rattle.shape.specs.Shape.{shape};
@@ -14,6 +14,7 @@ use conditions::Finding;
 use edges::rows;
 use pack::image;
 
+// K4 of parse state v: of the symbols on its edges in, the least is the only one, and v is not 0 where there is one.
 fn k4(img: &[u16], v: usize, on: &[u64; 256]) -> bool
     requires { ⌜ Laid (now img) ⌝ }
     requires { ⌜ v < states (now img) ⌝ }
@@ -21,7 +22,7 @@ fn k4(img: &[u16], v: usize, on: &[u64; 256]) -> bool
     ensures { λ r. ⌜ r ≡ k4 (now (img .entry)) v ⌝ }
 {
     let x = rows::first(on, v);
-    if x == 128 {
+    if x == rows::NONE {
         return true;
     }
     if v == 0 {
@@ -30,6 +31,7 @@ fn k4(img: &[u16], v: usize, on: &[u64; 256]) -> bool
     rows::only(on, v, x)
 }
 
+// The first parse state at which K4 fails.
 pub fn find_k4(img: &[u16], on: &[u64; 256]) -> Finding
     requires { ⌜ Laid (now img) ⌝ }
     requires { ⌜ Carried (now img) (states (now img)) (now on) ⌝ }
@@ -59,10 +61,10 @@ fn extend(
     want: usize,
 ) -> usize
     requires { ⌜ Laid (now img) ⌝ }
-    requires { ⌜ (s < states (now img)) × ((depth ≤ 14) × (want ≤ 14)) ⌝ }
+    requires { ⌜ (s < states (now img)) × ((depth ≤ mostSymbols) × (want ≤ mostSymbols)) ⌝ }
     requires { ⌜ (Sources (now img) (states (now img)) (now from)) × (Carried (now img) (states (now img)) (now on)) ⌝ }
     requires { ⌜ Walked (now img) s depth (now back) (now into) ⌝ }
-    ensures { λ r. ⌜ (Walked (now (img .entry)) s r (now (back .exit)) (now (into .exit))) × ((want ≤ r) × (r ≤ 14)) ⌝ }
+    ensures { λ r. ⌜ (Walked (now (img .entry)) s r (now (back .exit)) (now (into .exit))) × ((want ≤ r) × (r ≤ mostSymbols)) ⌝ }
 {
     let n = image::states(img);
     let mut d = depth;
@@ -135,12 +137,13 @@ fn end_right(
     rows::contained(back, image::len(img, p), goes, image::lhs(img, p))
 }
 
-// What is known after production p is tested: whether K5 holds, and how many steps back from s are made.
+// Whether K5 holds, and how many steps back are made by now.
 pub struct Tested {
     pub right: bool,
     pub depth: usize,
 }
 
+// K5 of parse state s and production p, where so many steps back from s are made.
 fn production(
     img: &[u16],
     s: usize,
@@ -155,11 +158,11 @@ fn production(
 ) -> Tested
     requires { ⌜ Laid (now img) ⌝ }
     requires { ⌜ shape (now img) ≡ Good ⌝ }
-    requires { ⌜ (s < states (now img)) × ((p < productions (now img)) × (depth ≤ 14)) ⌝ }
+    requires { ⌜ (s < states (now img)) × ((p < productions (now img)) × (depth ≤ mostSymbols)) ⌝ }
     requires { ⌜ (Sources (now img) (states (now img)) (now from)) × (Carried (now img) (states (now img)) (now on)) ⌝ }
     requires { ⌜ (Reducers (now img) (states (now img)) (now by)) × (Goers (now img) (states (now img)) (now goes)) ⌝ }
     requires { ⌜ Walked (now img) s depth (now back) (now into) ⌝ }
-    ensures { λ r. ⌜ (r .right ≡ k5 (now (img .entry)) s p) × ((Walked (now (img .entry)) s (r .depth) (now (back .exit)) (now (into .exit))) × (r .depth ≤ 14)) ⌝ }
+    ensures { λ r. ⌜ (r .right ≡ k5 (now (img .entry)) s p) × ((Walked (now (img .entry)) s (r .depth) (now (back .exit)) (now (into .exit))) × (r .depth ≤ mostSymbols)) ⌝ }
 {
     if rows::bit(by, p, s) {
         let d = extend(img, s, from, on, back, into, depth, image::len(img, p));
@@ -209,6 +212,7 @@ fn row5(
     Finding::Holds
 }
 
+// The first parse state, and its first production, at which K5 fails.
 pub fn find_k5(
     img: &[u16],
     from: &[u64; 256],
@@ -234,6 +238,7 @@ pub fn find_k5(
     Finding::Holds
 }
 
+// K6 of parse state s.
 fn k6(img: &[u16], s: usize, from: &[u64; 256], on: &[u64; 256]) -> bool
     requires { ⌜ Laid (now img) ⌝ }
     requires { ⌜ s < states (now img) ⌝ }
@@ -245,7 +250,7 @@ fn k6(img: &[u16], s: usize, from: &[u64; 256], on: &[u64; 256]) -> bool
         if s == 0 {
             return false;
         }
-        if rows::only(on, s, 64) {
+        if rows::only(on, s, image::FIRST_NONTERMINAL) {
             return rows::only(from, s, 0);
         }
         return false;
@@ -253,6 +258,7 @@ fn k6(img: &[u16], s: usize, from: &[u64; 256], on: &[u64; 256]) -> bool
     true
 }
 
+// The first parse state at which K6 fails.
 pub fn find_k6(img: &[u16], from: &[u64; 256], on: &[u64; 256]) -> Finding
     requires { ⌜ Laid (now img) ⌝ }
     requires { ⌜ Sources (now img) (states (now img)) (now from) ⌝ }

@@ -2,14 +2,14 @@ use borrow.Author.Needs.{needs}
 use mathlib.Core.Path.{_≡_}
 use Prim.Native.Nat.{_-_, _≤_}
 use native.Mathlib.Omega.{arith}
-use Rattle.pack.specs.Image.{states}
+use Rattle.pack.specs.Image.{mostSymbols, states}
 use Rattle.parsecheck.specs.Walked.{Walked}
 use Rattle.parsecheck.proofs.Laws as laws
 use Rattle.parsecheck.proofs.extend.Statement.{statement}
 use Rattle.parsecheck.proofs.extend.Tie as tie
 
 abbrev Inv-loop : tie.InvT-loop
-Inv-loop img s from on back₀ into₀ depth want n d₀ back into d = (d ≤ 14) × (n ≡ states img) × (Walked img s d back into)
+Inv-loop img s from on back₀ into₀ depth want n d₀ back into d = (d ≤ mostSymbols) × (n ≡ states img) × (Walked img s d back into)
 
 abbrev μ-loop : tie.MeasureT-loop
 μ-loop img s from on back₀ into₀ depth want n d₀ back into d = want - d

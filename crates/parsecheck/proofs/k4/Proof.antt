@@ -1,4 +1,3 @@
-use Prim.Native.Nat.{_-_}
 use native.Mathlib.Omega.{arith}
 use Rattle.parsecheck.proofs.Laws as laws
 use Rattle.parsecheck.proofs.k4.Statement.{statement}

@@ -1,5 +1,4 @@
 use borrow.Author.Needs.{needs}
-use Prim.Native.Nat.{_-_}
 use native.Mathlib.Omega.{arith}
 use Rattle.parsecheck.proofs.Laws as laws
 use Rattle.parsecheck.proofs.k6.Statement.{statement}

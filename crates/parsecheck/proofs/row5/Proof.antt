@@ -3,7 +3,7 @@ use mathlib.Core.Path.{_≡_, refl, sym, _∙_}
 use Prim.Native.Nat.{_-_, _≤_}
 use native.Mathlib.Omega.{arith}
 use lib.ListN.{replicate}
-use Rattle.pack.specs.Image.{productions}
+use Rattle.pack.specs.Image.{mostSymbols, productions}
 use Rattle.conditions.specs.Check.{c5, test, inRow}
 use Rattle.conditions.proofs.WalkLaws.{in-row-on, in-row-hit, in-row-end, in-row-start}
 use Rattle.edges.proofs.RowLaws.{empty-row}
@@ -13,7 +13,7 @@ use Rattle.parsecheck.proofs.row5.Statement.{statement}
 use Rattle.parsecheck.proofs.row5.Tie as tie
 
 abbrev Inv-loop : tie.InvT-loop
-Inv-loop img s from on by goes n back₀ into₀ depth₀ p₀ back into depth p = (p ≤ n) × (n ≡ productions img) × (depth ≤ 14) × (Walked img s depth back into)
+Inv-loop img s from on by goes n back₀ into₀ depth₀ p₀ back into depth p = (p ≤ n) × (n ≡ productions img) × (depth ≤ mostSymbols) × (Walked img s depth back into)
     × (inRow (test c5 img s) s (productions img) 0 ≡ inRow (test c5 img s) s (n - p) p)
 
 abbrev μ-loop : tie.MeasureT-loop
