@@ -5,7 +5,7 @@ use Prim.Native.Nat.{ℕ}
 use lib.Dec.{ltb}
 use lib.ListN.{length, drop}
 use Rattle.shape.specs.declared.Verdict.{Verdict}
-use Rattle.shape.specs.Shape.{codeOf, placeOf}
+use Rattle.shape.specs.Shape.{verdictCode, verdictPlace}
 use Rattle.scan.specs.declared.Scanned.{Scanned}
 use Rattle.numbers.specs.Front.{Delivery}
 
@@ -19,7 +19,7 @@ written out numbers = elim (ltb (length out) (length numbers)) [ true ↦ out | 
 
 -- Code and place.
 abbrev pub ofShape : Verdict → List ℕ
-ofShape v = codeOf v ∷ placeOf v ∷ []
+ofShape v = verdictCode v ∷ verdictPlace v ∷ []
 
 -- Code, place, set, length and moves.
 abbrev pub ofScan : Scanned → List ℕ

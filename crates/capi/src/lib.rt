@@ -46,7 +46,11 @@ pub extern "C" fn zhg_shape(img: &[u16], out: &mut [u64]) -> usize
     ensures { λ r. ⌜ now (out .exit) ≡ written (now (out .entry)) (ofShape (shape (now (img .entry)))) ⌝ }
 {
     let v = shape::shape(img);
-    put2(out, shape::code_of(v) as u64, shape::place_of(v) as u64)
+    put2(
+        out,
+        shape::verdict_code(v) as u64,
+        shape::verdict_place(v) as u64,
+    )
 }
 
 // The scan called by itself: code, place, set, length and moves.

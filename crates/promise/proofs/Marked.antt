@@ -7,7 +7,8 @@ use lib.Count.{trailingZeros}
 use lib.ListN.{length}
 use Rattle.sets.specs.Sets.{has, member, lacks, isEmpty, subset, countBelow, several}
 use Rattle.pack.specs.Image.{setAt, leastSize, greatestSize, layout, dom, lhs, len, symbol, act, goto, move, actionOf, lo, hi, rangeClass, acc, rej, poss, groupSet, chosen, classIn, validFrom}
-use Rattle.shape.specs.Shape.{rule, andThen, each, sizeRule, lengthRule, fits, layoutRule, domRight, domRule, isSymbol, symbolRule, prodRule, actRight, actRule, cellRule, gotoRules, moveRules, abovePrevious, rangeRule, emptyAtStart, scanRule, differs, groupRule, parserRules, scannerRules, headRules, shape}
+use Rattle.rules.specs.Rules.{fits, domRight, isSymbol, actRight, abovePrevious, emptyAtStart, differs}
+use Rattle.shape.specs.Shape.{rule, andThen, each, sizeRule, lengthRule, layoutRule, domRule, symbolRule, prodRule, actRule, cellRule, gotoRules, moveRules, rangeRule, scanRule, groupRule, parserRules, scannerRules, headRules, shape}
 use Rattle.scan.specs.Scan.{remember, scanFrom}
 use Rattle.scan.specs.Token.{chosenIn, terminalOf}
 use Rattle.parse.specs.Parse.{skipFrom, rescan, choose, findToken, reduceBy, accept, perform, step, settle, run, runAll, parse}

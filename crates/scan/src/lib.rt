@@ -142,7 +142,7 @@ pub fn scan(img: &[u16], text: &[u8], start: usize, set: u64, allowance: u32) ->
     }
     let v = shape::shape(img);
     if shape::is_wrong(v) {
-        return refusal(4, shape::place_of(v));
+        return refusal(4, shape::verdict_place(v));
     }
     let place = within(start, text.len());
     let row = classes::class_row(img);

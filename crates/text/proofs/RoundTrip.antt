@@ -12,6 +12,7 @@ use borrow.Author.Tests.{lt-ltb, le-ltb, ltb-false, leb-true, eqb-true}
 use Rattle.shape.specs.declared.Verdict.{Verdict}
 use Rattle.shape.specs.declared.Verdict.the-variants.{Good, Wrong}
 use Rattle.pack.specs.Image.{word, productions, prodStart, layoutAt, len, symbol}
+use Rattle.rules.specs.Rules.{symbolRight}
 use Rattle.shape.specs.Shape.{each, sizeRule, symbolRule, prodRule, headRules, parserRules, shape}
 use Rattle.shape.proofs.Laws.{rule-good, and-then-good, each-good, each-all}
 use Rattle.shape.proofs.Good.{good-laid}
@@ -60,7 +61,7 @@ module _ (img : List ℕ) (good : shape img ≡ Good) where
         most = leb-true _ _ (rule-good _ _ (a .0));
         unused = λ j l k.
             let q = rule-good _ _ (each-good (symbolRule img p) 14 0 (a .1) j k) in
-            eqb-true _ _ (simp (zero-add, le-ltb j _ l) at q);
+            eqb-true _ _ (simp (zero-add, symbolRight, le-ltb j _ l) at q);
       }
 
   -- Only the third table has productions.

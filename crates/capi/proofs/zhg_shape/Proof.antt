@@ -7,7 +7,7 @@ returns : tie.Need-returns
 returns c =
     let p = c .before .before in
     let k = p .before .before in
-    (p .put2 .ensures .0, rw (← k .before .before .shape .ensures, ← k .code-of .ensures, ← p .before .place-of .ensures) (p .put2 .ensures .1))
+    (p .put2 .ensures .0, rw (← k .before .before .shape .ensures, ← k .verdict-code .ensures, ← p .before .verdict-place .ensures) (p .put2 .ensures .1))
 
 pub zhg-shape-spec : {M : Type 1} → statement M
 zhg-shape-spec =
