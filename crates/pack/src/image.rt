@@ -1,7 +1,7 @@
 // Each number of the image by its name, where it stands, and how many words a thing takes. The functions are inner ones: they ask for
 // an image that is laid out as its sizes say.
 ghost use mathlib.Core.Path.{_≡_};
-ghost use Prim.Native.Nat.{ℕ, _+_, _*_, _<_, _≤_};
+ghost use Prim.Native.Nat.{_+_, _*_, _<_, _≤_};
 ghost use lib.ListN.{length};
 ghost use Rattle.pack.specs.Image.{word, setWords, headWords, mostSymbols, productionWords, rangeWords, scanWords, groupWords, setAt, terminals, nonterminals, productions, states, scanStates, classes, ranges, groups, mostTerminals, leastSize, greatestSize, prodStart, actStart, gotoStart, classStart, moveStart, scanStart, groupStart, needed, domAt, prodAt, lenAt, symbolAt, actAt, gotoAt, rangeAt, hiAt, rangeClassAt, moveAt, scanAt, rejAt, possAt, groupAt, chosenAt, layout, dom, lhs, len, symbol, act, goto, move, lo, hi, rangeClass, acc, rej, poss, groupSet, chosen, validSet};
 ghost use Rattle.pack.specs.Laid.{Sized, Laid};

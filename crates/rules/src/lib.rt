@@ -2,7 +2,7 @@
 // laid out as its sizes say.
 use pack::image;
 ghost use mathlib.Core.Path.{_≡_};
-ghost use Prim.Native.Nat.{ℕ, _<_, _≤_};
+ghost use Prim.Native.Nat.{_<_, _≤_};
 ghost use Rattle.pack.specs.Image.{headWords, mostSymbols, terminals, productions, scanStates, ranges, groups, actionOf};
 ghost use Rattle.pack.specs.Laid.{Laid};
 ghost use Rattle.rules.specs.Rules.{sizeRight, fits, layoutRight, domRight, lhsRight, lenRight, isSymbol, symbolRight, actRight, abovePrevious, endsRight, classRight, emptyAtStart, accRight, rejRight, possRight, differs, groupRight, chosenRight};

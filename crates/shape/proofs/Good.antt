@@ -1,5 +1,5 @@
 -- What a pack of good shape gives: each fact that the layers above lean on, by its name. Assumes nothing.
-use mathlib.Core.Path.{_≡_, refl, sym, _∙_}
+use mathlib.Core.Path.{_≡_, refl}
 use mathlib.Core.Bool.{Bool, true, false}
 use mathlib.Core.List.{List}
 use Prim.Native.Nat.{ℕ, zero, suc, _+_, _-_, _<_, _≤_, _^_}
@@ -7,8 +7,7 @@ use native.Mathlib.Omega.{arith}
 use lib.Dec.{eqb, leb}
 use borrow.Author.Tests.{ne-eqb, leb-true, ltb-true, eqb-true}
 use Rattle.sets.specs.Sets.{has, lacks, isEmpty, meet}
-use Rattle.shape.specs.declared.Verdict.{Verdict}
-use Rattle.shape.specs.declared.Verdict.the-variants.{Good, Wrong}
+use Rattle.shape.specs.declared.Verdict.the-variants.{Good}
 use Rattle.pack.specs.Image.{terminals, scanStates, classes, ranges, largestImage, greatestByte, layout, move, lo, hi, rangeClass, acc, rej, poss, classIn, classOf, needed}
 use Rattle.shape.specs.Shape.{each, headRules, parserRules, scannerRules, layoutRule, cellRule, moveRules, rangeRule, scanRule, shape}
 use Rattle.rules.specs.Rules.{fits, abovePrevious, emptyAtStart}

@@ -1,18 +1,17 @@
 -- Laws of the shape's tests: what a loop over them does, and what a verdict says of each. Assumes nothing.
-use mathlib.Core.Path.{_≡_, refl, sym, ap, ap₂, _∙_}
+use mathlib.Core.Path.{_≡_, refl, sym, _∙_}
 use mathlib.Core.Bool.{Bool, true, false, _&&_}
 use mathlib.Core.List.{List}
-use Prim.Native.Nat.{ℕ, zero, suc, _+_, _*_, _-_, _/_, _%_, _<_, _≤_, min}
+use Prim.Native.Nat.{ℕ, zero, suc, _+_, _*_, _-_, _<_, _≤_, min}
 use native.Mathlib.Nat.{not-suc-le-zero, le-of-suc-le-suc, add-zero, sub-zero, zero-lt-suc, zero-add, zero-mul, suc-mul, add-comm, mul-le-mul}
 use native.Mathlib.Numerals.{add-one}
 use native.Mathlib.Omega.{arith}
-use lib.Dec.{eqb}
 use lib.ListN.{length}
 use borrow.Author.Tests.{eq-eqb, ne-eqb, le-leb, lt-leb, eqb-true, leb-true, ltb-true}
 use Rattle.shape.specs.declared.Verdict.{Verdict}
 use Rattle.shape.specs.declared.Verdict.the-variants.{Good, Wrong}
 use Rattle.pack.specs.Image.{word, sizeWords, terminals, productions, ranges, groups, states, nonterminals, scanStates, classes, gotoStart, moveStart, leastSize, greatestSize, needed}
-use Rattle.shape.specs.Shape.{isWrong, rule, andThen, each, sizeRule, lengthRule, headRules, layoutRule, domRule, prodRule, actRule, cellRule, gotoRules, moveRules, rangeRule, scanRule, groupRule, parserRules, scannerRules, shape}
+use Rattle.shape.specs.Shape.{isWrong, rule, andThen, each, sizeRule, lengthRule, headRules, layoutRule, domRule, prodRule, actRule, cellRule, gotoRules, moveRules, rangeRule, scanRule, parserRules, scannerRules, shape}
 use Rattle.shape.specs.declared.tables.Ruled.the-variants.{Dom, Prod, Act, Class, Scan, Group}
 use Rattle.shape.specs.Rows.{rowRule}
 use Rattle.pack.specs.Laid.{Sized, Laid}

@@ -5,7 +5,7 @@ use super::is_wrong;
 use super::quick;
 use pack::image;
 ghost use mathlib.Core.Path.{_≡_};
-ghost use Prim.Native.Nat.{ℕ, _+_, _<_, _≤_};
+ghost use Prim.Native.Nat.{_+_, _<_, _≤_};
 ghost use lib.ListN.{length};
 ghost use Rattle.pack.specs.Image.{headWords, sizeWords, mostSymbols, terminals, productions, states, scanStates, ranges, groups};
 ghost use Rattle.pack.specs.Laid.{Laid};

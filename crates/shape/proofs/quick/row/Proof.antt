@@ -1,10 +1,8 @@
 use borrow.Author.Needs.{needs}
-use mathlib.Core.Path.{_≡_, sym, ap, _∙_}
-use Prim.Native.Nat.{ℕ, _+_}
+use mathlib.Core.Path.{sym, _∙_}
+use Prim.Native.Nat.{_+_}
 use native.Mathlib.Omega.{arith}
 use borrow.Author.Tests.{eqb-true}
-use Rattle.pack.specs.Image.{actionOf}
-use Rattle.rules.specs.Rules.{actRight}
 use Rattle.shape.proofs.Sound.{row-ends, row-good, not-true}
 use Rattle.shape.proofs.quick.row.Statement.{statement}
 use Rattle.shape.proofs.quick.row.Tie as tie

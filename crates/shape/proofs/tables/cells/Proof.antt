@@ -1,7 +1,6 @@
 use borrow.Author.Needs.{needs}
 use mathlib.Core.Path.{_≡_, refl, sym, _∙_}
-use Prim.Native.Nat.{ℕ, _+_, _≤_, _-_}
-use native.Mathlib.Omega.{arith}
+use Prim.Native.Nat.{_+_, _≤_, _-_}
 use Rattle.shape.specs.Shape.{each, cellRule}
 use Rattle.shape.proofs.Laws.{each-start, each-end, each-hit, each-on, cell-wrong, cell-good, wrong-is, good-is}
 use Rattle.shape.proofs.Sound.{all-below}

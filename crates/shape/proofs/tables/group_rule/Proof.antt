@@ -1,6 +1,6 @@
 use borrow.Author.Needs.{needs}
 use Rattle.shape.specs.Shape.{groupRule}
-use Rattle.shape.proofs.RuleLaws.{fails, holds-then}
+use Rattle.shape.proofs.RuleLaws.{rule-is, fails, holds-then}
 use Rattle.shape.proofs.tables.group_rule.Statement.{statement}
 use Rattle.shape.proofs.tables.group_rule.Tie as tie
 
@@ -8,7 +8,7 @@ returns : tie.Need-returns
 unfolding groupRule
 returns c =
     let l = c .before .before in
-    holds-then _ (l .before .before .group-right .ensures) (l .before .if1 .taken) (rw (l .chosen-right .ensures, c .before .chosen-at .ensures .0) at (c .rule .ensures))
+    holds-then _ (l .before .before .group-right .ensures) (l .before .if1 .taken) (rule-is (c .rule .ensures) (l .chosen-right .ensures) (c .before .chosen-at .ensures .0))
 
 returns-2 : tie.Need-returns-2
 unfolding groupRule

@@ -1,11 +1,13 @@
 use borrow.Author.Needs.{needs}
+use mathlib.Core.Path.{refl}
 use Rattle.shape.specs.Shape.{layoutRule}
+use Rattle.shape.proofs.RuleLaws.{rule-is}
 use Rattle.shape.proofs.tables.layout_rule.Statement.{statement}
 use Rattle.shape.proofs.tables.layout_rule.Tie as tie
 
 returns : tie.Need-returns
 unfolding layoutRule
-returns c = rw (c .before .layout-right .ensures) at (c .rule .ensures)
+returns c = rule-is (c .rule .ensures) (c .before .layout-right .ensures) refl
 
 pub layout-rule-spec : {M : Type 1} → statement M
 layout-rule-spec =

@@ -1,5 +1,4 @@
 use borrow.Author.Needs.{needs}
-use mathlib.Core.Path.{_≡_, sym, ap, _∙_}
 use Rattle.shape.specs.Rows.{rowRule, rowsOf}
 use Rattle.shape.proofs.tables.row_rule.Statement.{statement}
 use Rattle.shape.proofs.tables.row_rule.Tie as tie
