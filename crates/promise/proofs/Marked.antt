@@ -14,9 +14,10 @@ use Rattle.parse.specs.Parse.{skipFrom, rescan, choose, findToken, reduceBy, ac
 use Rattle.checker.specs.Edges.{allBelow, someBelow, leastFrom, implies, isEdge, leads, onlyOn, sourcesFrom, reached}
 use Rattle.checker.specs.Tests.{outrankedFrom, k1, within, k2, k3, enters, entering, k4, reduces, steps, k5, k6}
 use Rattle.checker.specs.Check.{finding, least, find1, find2, find3, find4, find5, find6, report, check}
-use Rattle.text.specs.Fields.{isDigit, digitsFrom, numberIn, readNumber, hexDigit, hexFrom, readSet, readField, wordsOf, decimal, hexOf, hexWord, fieldText}
+use Rattle.text.specs.Decimal.{isDigit, digitsFrom, numberIn, readNumber, decimalIn, decimal}
+use Rattle.text.specs.Fields.{hexDigit, hexFrom, readSet, readField, wordsOf, hexOf, hexWord, fieldText}
 use Rattle.text.specs.Form.{after, packLine, sizes, tablesOf, rowWidth}
-use Rattle.text.specs.Reader.{thenRead, expect, fieldThen, fields, zeros, symbolsOf, readRow, thenLines, asLine, readLines, readTables, limited, readHead, ended, readAll, Lines, all}
+use Rattle.text.specs.Reader.{thenRead, expect, fieldThen, readFields, zeros, readSymbols, readRow, thenLines, asLine, readLines, readTables, limited, readHead, ended, readAll, Lines, all}
 use Rattle.text.specs.Writer.{fieldsText, rowText, linesText, tablesText, textOf}
 use Rattle.promise.specs.SmallPack.{small, small11, small12, small12too, joined, smallText}
 use Rattle.promise.specs.Marked.{cases, same, ofParse, ofCheck, right, allRight}
@@ -33,9 +34,9 @@ words = refl
 
 -- The writer's text of the image is the pack's text, and reading it gives the image.
 pub written : textOf small ≡ smallText
-unfolding isDigit digitsFrom numberIn readNumber hexDigit hexFrom readSet readField wordsOf decimal hexOf hexWord fieldText after packLine sizes tablesOf rowWidth fieldsText rowText linesText tablesText textOf small joined smallText
+unfolding isDigit digitsFrom numberIn readNumber hexDigit hexFrom readSet readField wordsOf decimalIn decimal hexOf hexWord fieldText after packLine sizes tablesOf rowWidth fieldsText rowText linesText tablesText textOf small joined smallText
 written = refl
 
 pub read-back : readAll smallText ≡ all small []
-unfolding setAt leastSize greatestSize rule each sizeRule isDigit digitsFrom numberIn readNumber hexDigit hexFrom readSet readField wordsOf decimal hexOf hexWord fieldText after packLine sizes tablesOf rowWidth thenRead expect fieldThen fields zeros symbolsOf readRow thenLines asLine readLines readTables limited readHead ended readAll small joined smallText
+unfolding setAt leastSize greatestSize rule each sizeRule isDigit digitsFrom numberIn readNumber hexDigit hexFrom readSet readField wordsOf decimalIn decimal hexOf hexWord fieldText after packLine sizes tablesOf rowWidth thenRead expect fieldThen readFields zeros readSymbols readRow thenLines asLine readLines readTables limited readHead ended readAll small joined smallText
 read-back = refl
