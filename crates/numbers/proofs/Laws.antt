@@ -8,7 +8,7 @@ use lib.ListN.{length, getD, take, drop, set}
 use lib.Seq.{drop-cons, take-suc, take-all, set-at, length-take-le}
 use borrow.Author.Tests.{lt-ltb, le-ltb}
 use Rattle.numbers.specs.Codes.{done, roomTooSmall}
-use Rattle.numbers.specs.Front.{Delivery, Delivers, refuse, deliver, front}
+use Rattle.numbers.specs.Front.{Delivers, refuse, deliver, front}
 use Rattle.numbers.specs.declared.Answer.{Answer}
 
 abbrev pub answer : ℕ → ℕ → Answer

@@ -19,7 +19,6 @@ use Rattle.text.specs.Fields.{greatestWord, setWords, readSet, readField, words
 use Rattle.text.specs.Form.{newline, comma, after, mostSymbols, prodWords, groupWords, rowWidth}
 use Rattle.text.specs.Reader.{Line, Lines, thenRead, expect, fieldThen, readFields, zeros, readSymbols, readRow, thenLines, asLine, readLines}
 use Rattle.text.specs.Reader.Line.{wrong, took}
-use Rattle.text.specs.Reader.Lines.{all}
 use Rattle.text.proofs.Lines.{then-then, then-took, lines-lines, lines-all, field-then}
 use Rattle.reader.specs.declared.lines.Cursor.{Cursor}
 use Rattle.reader.specs.Steps.{lineOf, linesOf, Reads, ReadsLines}

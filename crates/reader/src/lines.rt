@@ -155,7 +155,7 @@ fn read_fields(text: &[u8], img: &mut [u16], c: Cursor, kind: Kind, n: usize, en
     let mut left = n;
     while left != 0 {
         left -= 1;
-        d = field_then(text, img, d, kind, text::byte_after(left, end));
+        d = field_then(text, img, d, kind, text::after(left, end));
     }
     d
 }
@@ -199,7 +199,7 @@ fn symbols_then(text: &[u8], img: &mut [u16], at: usize, words: usize, len: u16)
 {
     let n = len as usize;
     img[words] = len;
-    let c = expect_byte(text, at, words + 1, text::byte_after(n, NEWLINE));
+    let c = expect_byte(text, at, words + 1, text::after(n, NEWLINE));
     let d = read_fields(text, img, c, Kind::Number, n, NEWLINE);
     padded(img, d, text::MOST_SYMBOLS - n)
 }

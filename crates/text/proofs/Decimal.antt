@@ -6,9 +6,9 @@ use Prim.Native.Nat.{ℕ, zero, suc, _+_, _*_, _-_, _/_, _%_, _<_, _≤_}
 use native.Mathlib.Omega.{arith}
 use lib.Dec.{eqb, leb, ltb}
 use lib.ListN.{length, getD, drop, length-append}
-use borrow.Author.Tests.{eq-eqb, ne-eqb, le-leb, lt-leb, lt-ltb, le-ltb, leb-true, leb-false, ltb-true, ltb-false}
+use borrow.Author.Tests.{eq-eqb, ne-eqb, le-leb, lt-ltb, le-ltb, leb-true, leb-false, ltb-true, ltb-false}
 use Rattle.text.specs.declared.Field.{Field}
-use Rattle.text.specs.Decimal.{none, isDigit, digitsFrom, numberIn, readNumber, decimalIn, decimal}
+use Rattle.text.specs.Decimal.{isDigit, digitsFrom, numberIn, readNumber, decimalIn, decimal}
 
 abbrev pub field : ℕ → ℕ → Field
 field v k = record { value = v; used = k }

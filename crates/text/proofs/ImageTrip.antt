@@ -15,8 +15,8 @@ use Rattle.text.specs.declared.Kind.the-variants.{Number, Set}
 use Rattle.text.specs.declared.Row.{Row}
 use Rattle.text.specs.declared.Row.the-variants.{Numbers, Sets, Production, Group}
 use Rattle.text.specs.Decimal.{isDigit, decimal}
-use Rattle.text.specs.Fields.{greatestWord, setWords, readField, wordsOf, widthOf, hexWord, fieldText}
-use Rattle.text.specs.Form.{Table, newline, comma, after, mostSymbols, rowWidth, tableWords}
+use Rattle.text.specs.Fields.{greatestWord, readField, wordsOf, widthOf, hexWord, fieldText}
+use Rattle.text.specs.Form.{Table, newline, comma, after, rowWidth, tableWords}
 use Rattle.text.specs.Reader.{thenRead, expect, fieldThen, readFields, zeros, readSymbols, readRow, thenLines, asLine, readLines, readTables}
 use Rattle.text.specs.Reader.Line.{took}
 use Rattle.text.specs.Reader.Lines.{all}

@@ -16,8 +16,8 @@ use Rattle.text.specs.declared.Kind.the-variants.{Number, Set}
 use Rattle.text.specs.declared.Row.{Row}
 use Rattle.text.specs.declared.Row.the-variants.{Numbers, Sets, Production, Group}
 use Rattle.text.specs.Decimal.{readNumber}
-use Rattle.text.specs.Fields.{greatestWord, setWords, readSet, readField, wordsOf, widthOf, hexWord, fieldText}
-use Rattle.text.specs.Form.{Table, newline, comma, after, mostSymbols, packLine, sizes, tablesOf, rowWidth, tableWords}
+use Rattle.text.specs.Fields.{greatestWord, readSet, readField, wordsOf, widthOf, hexWord, fieldText}
+use Rattle.text.specs.Form.{Table, newline, comma, after, packLine, sizes, tablesOf, rowWidth, tableWords}
 use Rattle.text.specs.Reader.{Line, Lines, thenRead, expect, fieldThen, readFields, zeros, readSymbols, readRow, thenLines, asLine, readLines, readTables, limited, readHead, ended, readAll}
 use Rattle.text.specs.Reader.Line.{wrong, took}
 use Rattle.text.specs.Reader.Lines.{wrongFrom, all}

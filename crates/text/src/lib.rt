@@ -52,7 +52,7 @@ pub const TABLES: usize = 9;
 pub const LONGEST_NAME: usize = 7;
 
 // The byte after a field: a comma, or after the last one what ends the row.
-pub fn byte_after(more: usize, end: u8) -> u8
+pub fn after(more: usize, end: u8) -> u8
     ensures { λ r. ⌜ r ≡ after more end ⌝ }
 {
     if more == 0 {

@@ -19,7 +19,7 @@ use Rattle.text.specs.declared.Kind.{Kind}
 use Rattle.text.specs.declared.Kind.the-variants.{Number, Set}
 use Rattle.text.specs.declared.Row.{Row}
 use Rattle.text.specs.declared.Row.the-variants.{Numbers, Sets, Production, Group}
-use Rattle.text.specs.Fields.{setWords, hexOf, hexWord, fieldText, widthOf}
+use Rattle.text.specs.Fields.{hexOf, hexWord, fieldText, widthOf}
 use Rattle.text.specs.Form.{newline, comma, after, rowWidth, packLine, sizes, tablesOf, tableAt}
 use Rattle.text.specs.Writer.{fieldsText, rowText, linesText, tablesText, textOf, writeGood, write}
 use Rattle.text.proofs.Tables.{tablesFrom, tables-on, tables-end}

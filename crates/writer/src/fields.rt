@@ -31,7 +31,7 @@ pub fn word(img: &[u16], i: usize) -> usize
 }
 
 // One byte.
-pub fn put(out: &mut [u8], at: usize, b: u8) -> usize
+fn put(out: &mut [u8], at: usize, b: u8) -> usize
     requires { ⌜ at ≤ tooLong ⌝ }
     ensures { λ r. ⌜ Wrote (b ∷ []) (now (out .entry)) at (now (out .exit)) r ⌝ }
 {
@@ -152,7 +152,7 @@ pub fn write_fields(
     while left != 0 {
         left -= 1;
         to = write_field(out, to, img, from, kind);
-        to = put(out, to, text::byte_after(left, end));
+        to = put(out, to, text::after(left, end));
         from += width(kind);
     }
     to

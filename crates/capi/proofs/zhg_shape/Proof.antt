@@ -6,7 +6,7 @@ returns : tie.Need-returns
 returns c =
     let p = c .before .before in
     let k = p .before .before in
-    rw (← k .before .before .before .shape .ensures, ← k .before .code-of .ensures, ← k .place-of .ensures) (p .put2 .ensures)
+    rw (← k .before .before .shape .ensures, ← k .before .code-of .ensures, ← k .place-of .ensures) (p .put2 .ensures)
 
 pub zhg-shape-spec : {M : Type 1} → statement M
 zhg-shape-spec =

@@ -30,7 +30,7 @@ loop-again c =
       r .inside,
       omega (arith, r .fits, l .1, one-more _ (widthOf (c .before .before .before .before .before .before .before .before .before .args .kind)) (c .before .before .before .before .before .loop-test .taken)),
       c .before .before .field-then .kept .1 .0 ∙ l .2,
-      l .3 ∙ fields-on _ _ _ _ _ _ (c .before .before .before .before .before .loop-test .taken) (c .before .before .before .byte-after .ensures) (r .means),
+      l .3 ∙ fields-on _ _ _ _ _ _ (c .before .before .before .before .before .loop-test .taken) (c .before .before .before .after .ensures) (r .means),
     )
 
 returns : tie.Need-returns Inv-loop μ-loop

@@ -23,7 +23,7 @@ returns c =
     let b = c .before .before .before .before .before .before .before .before .expect-byte .ensures _ in
     let q = c .before .before .before .before .before .before .read-fields .ensures in
     let p = c .before .before .padded .ensures in record {
-      means = symbols-then (a .text .now) (a .img .now) _ _ (a .at) (a .words) (a .len) _ _ _ _ _ _ (omega (arith, s .pre .1 .0)) (c .before .before .before .before .before .before .before .before .before .byte-after .ensures) b q (p .0 (a .text .now));
+      means = symbols-then (a .text .now) (a .img .now) _ _ (a .at) (a .words) (a .len) _ _ _ _ _ _ (omega (arith, s .pre .1 .0)) (c .before .before .before .before .before .before .before .before .before .after .ensures) b q (p .0 (a .text .now));
       inside = omega (arith, q .inside, p .1 .0);
       fits = omega (arith, b .fits, q .fits, p .1 .1, s .pre .1 .1);
     }

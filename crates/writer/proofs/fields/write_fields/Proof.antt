@@ -39,7 +39,7 @@ loop-again c =
       wrote-place q,
       omega (arith, l .1, c .width .ensures, one-more _ (widthOf (c .before .before .before .before .before .before .before .before .before .before .before .before .before .before .args .kind)) (c .before .before .before .before .before .before .before .before .before .before .loop-test .taken)),
       c .before .before .before .put .kept .0 ∙ c .before .before .before .before .before .before .before .before .write-field .kept .0 ∙ l .2,
-      λ out′ r o. l .3 out′ r (fields-step _ _ _ _ _ _ _ (c .before .before .before .before .before .before .before .before .before .before .loop-test .taken) (c .before .before .before .before .byte-after .ensures) (c .width .ensures) p q o),
+      λ out′ r o. l .3 out′ r (fields-step _ _ _ _ _ _ _ (c .before .before .before .before .before .before .before .before .before .before .loop-test .taken) (c .before .before .before .before .after .ensures) (c .width .ensures) p q o),
     )
 
 returns : tie.Need-returns Inv-loop μ-loop

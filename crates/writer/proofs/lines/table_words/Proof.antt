@@ -1,6 +1,4 @@
 -- `writer::lines::table_words` meets its contract.
-use mathlib.Core.Path.{_≡_, ap₂, _∙_}
-use Prim.Native.Nat.{ℕ, _*_}
 use native.Mathlib.Omega.{arith}
 use borrow.Author.Needs.{needs}
 use Rattle.text.proofs.Tables.{row-fits}
