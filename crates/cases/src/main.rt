@@ -118,7 +118,7 @@ fn pattern_of_bytes(room: &mut [u8]) {
 
 fn read_into(text: &[u8], room: &mut [u16]) {
     pattern_of_words(room);
-    let a = text::read(text, room);
+    let a = reader::read(text, room);
     print(a.code as u64, b',');
     print(a.number as u64, b',');
     print(sum_of_words(room), b'\n');
@@ -126,7 +126,7 @@ fn read_into(text: &[u8], room: &mut [u16]) {
 
 fn write_into(img: &[u16], room: &mut [u8]) {
     pattern_of_bytes(room);
-    let a = text::write(img, room);
+    let a = writer::write(img, room);
     print(a.code as u64, b',');
     print(a.number as u64, b',');
     print(sum_of_bytes(room), b'\n');

@@ -58,7 +58,7 @@ fn parsed(img: &[u16], query: &[u8]) {
 // The pack text, and then the query; a refused pack text prints its code and its place only.
 fn answer(text: &[u8], query: &[u8]) {
     let mut img = [0u16; pack::image::LARGEST_IMAGE];
-    let a = text::read(text, &mut img);
+    let a = reader::read(text, &mut img);
     if a.code == numbers::DONE {
         parsed(parts::words(&img, a.number), query);
     } else {
