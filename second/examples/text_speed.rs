@@ -3,7 +3,8 @@
 
 use std::time::Instant;
 
-use second::engine::{Engine, Second};
+use second::engine::SECOND;
+use second::proved::PROVED;
 
 /// A pack of the greatest size whose text is within its limit: most cells are 0.
 fn greatest() -> Vec<u16> {
@@ -75,8 +76,6 @@ fn least(mut call: impl FnMut()) -> f64 {
 }
 
 fn main() {
-    let proved = second::proved::engine();
-    let second: Box<dyn Engine> = Box::new(Second);
     let small = second::marked::small_image();
     println!(
         "{:<34} {:>10} {:>10} {:>8}",
@@ -87,25 +86,19 @@ fn main() {
         ("a pack of 20,589 words", greatest()),
     ] {
         let mut text = vec![0; 65_535];
-        let written = second
-            .write(&image, &mut text)
-            .expect("the second program writes");
+        let written = (SECOND.write)(&image, &mut text);
         assert_eq!(written.code, 0, "the text is within its limit");
         text.truncate(written.number as usize);
         let mut images = [vec![7; image.len()], vec![7; image.len()]];
         let mut texts = [vec![7; text.len()], vec![7; text.len()]];
         let mut times = [[0.0; 2]; 2];
-        for (i, engine) in [&proved, &second].into_iter().enumerate() {
+        for (i, engine) in [PROVED, SECOND].into_iter().enumerate() {
             times[0][i] = least(|| {
-                let answer = engine
-                    .read(&text, &mut images[i])
-                    .expect("the engine reads");
+                let answer = (engine.read)(&text, &mut images[i]);
                 assert_eq!((answer.code, answer.number as usize), (0, image.len()));
             });
             times[1][i] = least(|| {
-                let answer = engine
-                    .write(&image, &mut texts[i])
-                    .expect("the engine writes");
+                let answer = (engine.write)(&image, &mut texts[i]);
                 assert_eq!((answer.code, answer.number as usize), (0, text.len()));
             });
             assert!(
