@@ -1,8 +1,7 @@
 //! The proved library as an engine, over the C functions that `include/zhgarelli.h` declares.
 //!
-//! Each call asserts more than its numbers: the function answers how many numbers it gives and leaves the rest of `out` as it was; and
-//! where `out` is one number too short it answers 0 and leaves all of it. (That is a call of its own, and left out of a build without
-//! assertions, for calls that are timed.)
+//! Each call asserts more than its numbers: the function answers how many numbers it gives and leaves the rest of `out` as it was; and in
+//! a call of its own, where `out` is one number too short, it answers 0 and leaves all of it.
 
 use crate::check::Checked;
 use crate::engine::Engine;
@@ -78,10 +77,8 @@ const ROOM: usize = 8;
 /// The numbers of one call.
 fn numbers<const N: usize>(call: impl Fn(*mut u64, usize) -> usize) -> [u64; N] {
     let mut out = [BEFORE; ROOM];
-    if cfg!(debug_assertions) {
-        assert_eq!(call(out.as_mut_ptr(), N - 1), 0, "out is too short");
-        assert_eq!(out, [BEFORE; ROOM], "an out that is too short is left");
-    }
+    assert_eq!(call(out.as_mut_ptr(), N - 1), 0, "out is too short");
+    assert_eq!(out, [BEFORE; ROOM], "an out that is too short is left");
     assert_eq!(call(out.as_mut_ptr(), ROOM), N, "how many numbers");
     let (front, rest) = out.split_at(N);
     assert!(rest.iter().all(|&n| n == BEFORE), "the rest of out is left");
