@@ -50,17 +50,19 @@ fn apart_from(tables: &Tables, set: Set) -> Set {
 fn fail_k1(rng: &mut Rng, tables: &mut Tables) -> Option<()> {
     let q = spot(rng, 1, tables.scan.len())?;
     let state = tables.scan[q];
-    let matching = state.acc | state.rej;
-    let (out, into) = match some_of(rng, state.rej) {
-        Some(t) if rng.percent(50) => (t, true),
-        _ => {
-            let free = state.acc | apart_from(tables, matching);
-            (some_of(rng, free)?, false)
+    let free = state.acc | apart_from(tables, state.acc | state.rej);
+    let state = &mut tables.scan[q];
+    match some_of(rng, state.rej) {
+        Some(t) if rng.percent(50) => {
+            state.rej &= !sets::single(t);
+            state.acc |= sets::single(t);
         }
-    };
-    let (t, state) = (sets::single(out), &mut tables.scan[q]);
-    state.acc = if into { state.acc | t } else { state.acc & !t };
-    state.rej = if into { state.rej & !t } else { state.rej | t };
+        _ => {
+            let t = some_of(rng, free)?;
+            state.acc &= !sets::single(t);
+            state.rej |= sets::single(t);
+        }
+    }
     Some(())
 }
 
