@@ -303,10 +303,9 @@ static void passing_pack(struct image *image)
     }
 }
 
-/* The pack that costs the check most among those that pass: every row but the first has 64 reductions of 14 symbols, as many of them
- * different as there are productions for. The states but 0 go round in two circles, one on nonterminal 0 and one on nonterminal 1, so
- * that no way back comes to an end. With a scanner, every parse state sees two terminals in every scan state, and their group is the
- * last one. */
+/* Of the packs that pass, the one that costs the check most that we could build: every row but the first has 64 reductions of 14 symbols,
+ * by half of the productions. The states but 0 go round in two circles, one on nonterminal 0 and one on nonterminal 1, so that no way back
+ * comes to an end. With a scanner, every parse state sees two terminals in every scan state, and their group is the last one. */
 static void worst_pack(struct image *image, size_t states, size_t productions, bool scanner)
 {
     const struct sizes least = {64, 32, productions, states, 1, 1, 0, 0}, most = {64, 32, productions, states, 128, 32, 64, 32};
@@ -532,7 +531,7 @@ struct row {
     struct call call;
     size_t size;
     const char *sized;
-    /* The answer that makes the row what it says: the code, and of a scan and a parse the moves, where they are known. */
+    /* The answer that makes the row what it says: the code, and of a scan the moves. */
     uint64_t code, moves;
     const char *unit;
     double per_second;
@@ -551,8 +550,8 @@ static void prepare(struct row *row)
 {
     uint64_t out[NUMBERS] = {0};
     answer(&versions[0], &row->call, out);
-    if (out[0] != row->code || (row->call.kind == SCAN && out[4] != row->moves) || (row->moves && row->call.kind == PARSE && out[5] != row->moves))
-        fail(row->what);
+    if (out[0] != row->code || (row->call.kind == SCAN && out[4] != row->moves))
+        fail("a row is not what it says");
     for (int v = 0; v <= VERSIONS && version_of(row, v); v++) {
         row->seconds[v] = 1e9;
         row->calls[v] = 1;
@@ -647,12 +646,12 @@ static struct row parse_row(const char *what, const struct image *image, const c
 static size_t draw_json(char text[MOST_BYTES])
 {
     static const char *const names[] = {"std::sort", "malloc", "parse body", "main", "read \\\"quoted\\\""};
+    static const char form[] = "%s{\"id\": %u, \"name\": \"%s\", \"share\": %u.%uE-2,\n"
+                               " \"calls\": [%u, -%u, []], \"live\": %s, \"next\": null}";
     size_t bytes = 0;
     while (bytes < 60000)
-        bytes += (size_t)snprintf(text + bytes, MOST_BYTES - bytes,
-                                  "%s{\"id\": %llu, \"name\": \"%s\", \"share\": %llu.%lluE-2,\n \"calls\": [%llu, -%llu, []], \"live\": %s, \"next\": null}",
-                                  bytes ? ",\n" : "[", (unsigned long long)draw(100000), names[draw(5)], (unsigned long long)draw(100),
-                                  (unsigned long long)draw(1000), (unsigned long long)draw(1000), (unsigned long long)draw(1000),
+        bytes += (size_t)snprintf(text + bytes, MOST_BYTES - bytes, form, bytes ? ",\n" : "[", (unsigned)draw(100000), names[draw(5)],
+                                  (unsigned)draw(100), (unsigned)draw(1000), (unsigned)draw(1000), (unsigned)draw(1000),
                                   draw(2) ? "true" : "false");
     text[bytes++] = ']';
     return bytes;
@@ -773,7 +772,7 @@ int main(int words, char **word)
     compare_parses(&profile, share);
     compare_parses(&profile, top);
     compare_parses(&json, "[1, {\"a\": null}, -2.5e3]");
-    printf("The same answer from all, %zu times: on each input below, on images, pack texts and queries with changes, and on short scans.\n\n",
+    printf("The same answer from all, %zu times: on each input below, on images, pack texts and queries with changes, on short scans.\n\n",
            compared);
 
     measure_all(rows, ROWS);

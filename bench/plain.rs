@@ -1,5 +1,6 @@
 //! Shape, the scan called by itself, the reader and the writer, the check and the parse in plain safe Rust, written from document 01 the
-//! obvious way: each test leaves at the first wrong word, line or place. Only the entry points at the end, which turn C's pointers into slices, hold `unsafe`.
+//! obvious way: each test leaves at the first wrong word, line or place. Only the entry points at the end, which turn C's pointers into
+//! slices, hold `unsafe`.
 
 struct Pack {
     terminals: usize,
