@@ -605,7 +605,8 @@ impl Mix {
             image: Rc::new(passing.tables.image()),
             language: None,
         };
-        for length in [TEXT_LIMIT, TEXT_LIMIT + 1 + self.rng.below(20)] {
+        let more = *self.rng.pick(&[1, 1, 2, 20]);
+        for length in [TEXT_LIMIT, TEXT_LIMIT + more] {
             if self.kinds.scan || self.kinds.parse {
                 let pack = Pack::new(&subject.image);
                 let likely = query::likely_bytes(&mut self.rng, &pack);
