@@ -1,5 +1,7 @@
 /* The benchmark: the proved library, plain C and plain Rust side by side in one process. First the three must give the same answers, on
- * each input that is timed and on many damaged ones; then each row is timed, and the least of several measurements is printed. */
+ * each input that is timed and on many damaged ones; then each row is timed, and the least of several measurements is printed.
+ *   bench PACKS             the table; PACKS is the folder of json.pack and profile.pack
+ *   bench PACKS --growth    how the time of the check grows with the parse states and the productions */
 #include <stdbool.h>
 #include <stdio.h>
 #include <stdlib.h>
@@ -9,34 +11,41 @@
 #include "../include/zhgarelli.h"
 #include "plain.h"
 
-enum { MOST_WORDS = 20589, MOST_BYTES = 65535, VERSIONS = 3, REPEATS = 25 };
+enum { MOST_WORDS = 20589, MOST_BYTES = 65535, MOST_TREE = 4 * 65535, VERSIONS = 3, NUMBERS = 6, REPEATS = 25 };
 static const double BATCH_SECONDS = 0.008;
 
-typedef size_t shape_function(const uint16_t *, size_t, uint64_t *, size_t);
+typedef size_t image_function(const uint16_t *, size_t, uint64_t *, size_t);
 typedef size_t scan_function(const uint16_t *, size_t, const uint8_t *, size_t, size_t, uint64_t, uint32_t, uint64_t *, size_t);
 typedef size_t read_function(const uint8_t *, size_t, uint16_t *, size_t, uint64_t *, size_t);
 typedef size_t write_function(const uint16_t *, size_t, uint8_t *, size_t, uint64_t *, size_t);
+typedef size_t parse_function(const uint16_t *, size_t, const uint8_t *, size_t, uint16_t *, size_t, uint32_t, uint64_t *, size_t);
 
-static const struct version {
+struct version {
     const char *name;
-    shape_function *shape;
+    image_function *shape, *check;
     scan_function *scan;
     read_function *read;
     write_function *write;
-} versions[VERSIONS] = {
-    {"proved", zhg_shape, zhg_scan, zhg_read, zhg_write},
-    {"plain C", plain_c_shape, plain_c_scan, plain_c_read, plain_c_write},
-    {"plain Rust", plain_rust_shape, plain_rust_scan, plain_rust_read, plain_rust_write},
+    parse_function *parse;
 };
+
+static const struct version versions[VERSIONS] = {
+    {"proved", zhg_shape, zhg_check, zhg_scan, zhg_read, zhg_write, zhg_parse},
+    {"plain C", plain_c_shape, plain_c_check, plain_c_scan, plain_c_read, plain_c_write, plain_c_parse},
+    {"plain Rust", plain_rust_shape, plain_rust_check, plain_rust_scan, plain_rust_read, plain_rust_write, plain_rust_parse},
+};
+
+/* Plain C that parses without its shape test, and does nothing else. */
+static const struct version run_alone = {.name = "plain C's run", .parse = plain_c_run};
 
 struct image {
     uint16_t words[MOST_WORDS];
     size_t count;
 };
 
-/* One call of an entry point. A reader and a writer get so many words or bytes of the lent buffers. */
+/* One call of an entry point. A reader, a writer and a parse get so many words or bytes of the lent buffers. */
 struct call {
-    enum { SHAPE, SCAN, READ, WRITE } kind;
+    enum { SHAPE, SCAN, READ, WRITE, CHECK, PARSE } kind;
     const struct image *image;
     const uint8_t *text;
     size_t text_bytes, start;
@@ -45,21 +54,27 @@ struct call {
     size_t room;
 };
 
-static uint16_t lent_words[MOST_WORDS];
+static uint16_t lent_words[MOST_WORDS], lent_tree[MOST_TREE];
 static uint8_t lent_bytes[MOST_BYTES];
 
-static size_t answer(const struct version *version, const struct call *call, uint64_t out[5])
+static size_t answer(const struct version *version, const struct call *call, uint64_t out[NUMBERS])
 {
     const struct image *image = call->image;
     switch (call->kind) {
     case SHAPE:
-        return version->shape(image->words, image->count, out, 5);
+        return version->shape(image->words, image->count, out, NUMBERS);
     case SCAN:
-        return version->scan(image->words, image->count, call->text, call->text_bytes, call->start, call->set, call->allowance, out, 5);
+        return version->scan(image->words, image->count, call->text, call->text_bytes, call->start, call->set, call->allowance, out,
+                             NUMBERS);
     case READ:
-        return version->read(call->text, call->text_bytes, lent_words, call->room, out, 5);
+        return version->read(call->text, call->text_bytes, lent_words, call->room, out, NUMBERS);
+    case WRITE:
+        return version->write(image->words, image->count, lent_bytes, call->room, out, NUMBERS);
+    case CHECK:
+        return version->check(image->words, image->count, out, NUMBERS);
     default:
-        return version->write(image->words, image->count, lent_bytes, call->room, out, 5);
+        return version->parse(image->words, image->count, call->text, call->text_bytes, lent_tree, call->room, call->allowance, out,
+                              NUMBERS);
     }
 }
 
@@ -141,13 +156,26 @@ static const char small_pack[] =
     "scan=0000000000000008,0000000000000000,0000000000000008\n";
 
 /* The image of a pack text, and the pack text of an image; they are known to be good. */
-static void read_pack(struct image *image, const char *text)
+static void read_pack(struct image *image, const uint8_t *text, size_t bytes)
 {
     uint64_t out[2];
-    zhg_read((const uint8_t *)text, strlen(text), image->words, MOST_WORDS, out, 2);
+    zhg_read(text, bytes, image->words, MOST_WORDS, out, 2);
     if (out[0] != 0)
         fail("the pack text is refused");
     image->count = out[1];
+}
+
+static size_t read_file(struct image *image, const char *folder, const char *name, uint8_t text[MOST_BYTES])
+{
+    char path[4096];
+    snprintf(path, sizeof path, "%s/%s", folder, name);
+    FILE *file = fopen(path, "rb");
+    if (!file)
+        fail("a pack is not in the folder");
+    size_t bytes = fread(text, 1, MOST_BYTES, file);
+    fclose(file);
+    read_pack(image, text, bytes);
+    return bytes;
 }
 
 static size_t write_pack(const struct image *image, uint8_t text[MOST_BYTES])
@@ -163,6 +191,24 @@ struct sizes {
     size_t t, n, p, s, q, c, r, g;
 };
 
+static void put_head(struct image *image, struct sizes z)
+{
+    const size_t head[9] = {1, z.t, z.n, z.p, z.s, z.q, z.c, z.r, z.g};
+    image->count = 0;
+    for (int i = 0; i < 9; i++)
+        put(image, head[i]);
+}
+
+/* Ranges over all bytes, of any classes. */
+static void put_ranges(struct image *image, struct sizes z)
+{
+    for (size_t r = 0; r < z.r; r++) {
+        put(image, r * 256 / z.r);
+        put(image, (r + 1) * 256 / z.r - 1);
+        put(image, draw(z.c));
+    }
+}
+
 /* A pack of good shape. Of the parse states every other one reduces by one production in half of its columns, and the others shift in
  * a quarter of theirs. Where the scan goes on for ever each move leads to some scan state and each possible set is full. One scan state
  * of `accepting` accepts some of the terminals, and one of `rejecting` rejects some; 0 stands for none. */
@@ -170,10 +216,7 @@ static void draw_pack(struct image *image, struct sizes z, bool for_ever, size_t
 {
     uint64_t all = (z.t < 64 ? (UINT64_C(1) << z.t) - 1 : UINT64_MAX) & ~UINT64_C(1);
     uint64_t layout = z.t > 2 ? 2 : 0;
-    image->count = 0;
-    const size_t head[9] = {1, z.t, z.n, z.p, z.s, z.q, z.c, z.r, z.g};
-    for (int i = 0; i < 9; i++)
-        put(image, head[i]);
+    put_head(image, z);
     put_set(image, layout);
     for (size_t t = 0; t < z.t; t++)
         put_set(image, t == 0 ? 0 : draw_set(all) & draw_set(all) & ~(UINT64_C(1) << t));
@@ -196,11 +239,7 @@ static void draw_pack(struct image *image, struct sizes z, bool for_ever, size_t
     }
     for (size_t i = 0; i < z.s * z.n; i++)
         put(image, draw(4) ? 0 : 1 + draw(z.s));
-    for (size_t r = 0; r < z.r; r++) {
-        put(image, r * 256 / z.r);
-        put(image, (r + 1) * 256 / z.r - 1);
-        put(image, draw(z.c));
-    }
+    put_ranges(image, z);
     for (size_t i = 0; i < z.q * z.c; i++)
         put(image, for_ever ? 1 + draw(z.q) : draw(z.q + 1));
     for (size_t q = 0; q < z.q; q++) {
@@ -217,49 +256,159 @@ static void draw_pack(struct image *image, struct sizes z, bool for_ever, size_t
     }
 }
 
+/* The greatest pack that passes. From state 0 nine paths of 14 tokens lead through 126 states; each of these reduces what was read since
+ * state 0, in half of its columns, and goes on by one shift; state 1 accepts. A name, terminal 63, is outranked wherever another token
+ * matches. Terminal 1 is layout. */
+static void passing_pack(struct image *image)
+{
+    enum { PATHS = 9, STEPS = 14, NAME = 63, TOKENS = 61 };
+    const uint64_t tokens = ~UINT64_C(3) & ~(UINT64_C(1) << NAME), all = ~UINT64_C(1);
+    const struct sizes z = {64, 32, 128, 128, 128, 32, 64, 32};
+    put_head(image, z);
+    put_set(image, 2);
+    for (size_t t = 0; t < z.t; t++)
+        put_set(image, t == NAME ? tokens : 0);
+    for (size_t p = 0; p < z.p; p++) {
+        size_t path = p / STEPS, len = p < PATHS * STEPS ? p % STEPS + 1 : 0;
+        put(image, 0);
+        put(image, len);
+        for (size_t i = 0; i < 14; i++)
+            put(image, i < len ? 2 + (path * STEPS + i) % TOKENS : 0);
+    }
+    for (size_t s = 0; s < z.s; s++) {
+        size_t p = s - 2;
+        for (size_t t = 0; t < z.t; t++) {
+            size_t next = 0;
+            for (size_t path = 0; s == 0 && path < PATHS; path++)
+                if (t == 2 + path * STEPS % TOKENS)
+                    next = 2 + path * STEPS;
+            if (s >= 2 && p % STEPS + 1 < STEPS && t == 2 + (p + 1) % TOKENS)
+                next = s + 1;
+            put(image, next ? 2 + 2 * next : s == 1 && t == 0 ? 1 : s >= 2 && t % 2 == 0 ? 3 + 2 * p : 0);
+        }
+    }
+    for (size_t i = 0; i < z.s * z.n; i++)
+        put(image, i == 0 ? 2 : 0);
+    put_ranges(image, z);
+    for (size_t i = 0; i < z.q * z.c; i++)
+        put(image, draw(z.q + 1));
+    for (size_t q = 0; q < z.q; q++) {
+        put_set(image, q ? UINT64_C(1) << (2 + q % TOKENS) : 0);
+        put_set(image, q ? UINT64_C(1) << NAME : 0);
+        put_set(image, all);
+    }
+    for (size_t g = 0; g < z.g; g++) {
+        put_set(image, UINT64_C(3) << (2 + g));
+        put(image, 2 + g);
+    }
+}
+
+/* Of the packs that pass, the one that costs the check most that we could build: every row but the first has 64 reductions of 14 symbols,
+ * by half of the productions. The states but 0 go round in two circles, one on nonterminal 0 and one on nonterminal 1, so that no way back
+ * comes to an end. With a scanner, every parse state sees two terminals in every scan state, and their group is the last one. */
+static void worst_pack(struct image *image, size_t states, size_t productions, bool scanner)
+{
+    const struct sizes least = {64, 32, productions, states, 1, 1, 0, 0}, most = {64, 32, productions, states, 128, 32, 64, 32};
+    const struct sizes z = scanner ? most : least;
+    size_t half = productions / 2, first[2] = {1, states / 2}, end[2] = {states / 2, states};
+    put_head(image, z);
+    put_set(image, 0);
+    for (size_t t = 0; t < z.t; t++)
+        put_set(image, 0);
+    for (size_t p = 0; p < z.p; p++) {
+        put(image, p / half);
+        put(image, 14);
+        for (size_t i = 0; i < 14; i++)
+            put(image, 64 + p / half);
+    }
+    for (size_t s = 0; s < z.s; s++)
+        for (size_t t = 0; t < z.t; t++)
+            put(image, s == 0 ? 0 : 3 + 2 * ((s >= end[0]) * half + t % half));
+    for (size_t s = 0; s < z.s; s++)
+        for (size_t n = 0; n < z.n; n++)
+            put(image, n > 1 || s < first[n] || s >= end[n] ? 0 : 1 + (s + 1 < end[n] ? s + 1 : first[n]));
+    put_ranges(image, z);
+    for (size_t i = 0; i < z.q * z.c; i++)
+        put(image, 1 + draw(z.q));
+    for (size_t q = 0; q < z.q; q++) {
+        put_set(image, q ? UINT64_C(3) << z.g : 0);
+        put_set(image, 0);
+        put_set(image, ~UINT64_C(1));
+    }
+    for (size_t g = 0; g < z.g; g++) {
+        put_set(image, UINT64_C(3) << (1 + g));
+        put(image, 1 + g);
+    }
+}
+
 /* ---- the same answers ---- */
 
 static size_t compared;
 
-/* What a version gives: the numbers, and the lent buffers. */
+/* The buffer that a call is lent, whole, and its size in bytes. Of the tree a little more than the call may use. */
+static size_t lent(const struct call *call, void **buffer)
+{
+    size_t tree = (call->room + 16) * sizeof *lent_tree;
+    *buffer = call->kind == READ ? (void *)lent_words : call->kind == WRITE ? (void *)lent_bytes : (void *)lent_tree;
+    switch (call->kind) {
+    case READ:
+        return sizeof lent_words;
+    case WRITE:
+        return sizeof lent_bytes;
+    case PARSE:
+        return tree < sizeof lent_tree ? tree : sizeof lent_tree;
+    default:
+        return 0;
+    }
+}
+
+/* What a version gives: the numbers, and the lent buffer. */
 struct given {
     size_t told;
-    uint64_t out[5];
-    uint16_t words[MOST_WORDS];
-    uint8_t bytes[MOST_BYTES];
+    uint64_t out[NUMBERS];
+    uint8_t buffer[sizeof lent_tree];
 };
 
 static void give(const struct version *version, const struct call *call, struct given *given)
 {
-    bool buffers = call->kind == READ || call->kind == WRITE;
+    void *buffer;
+    size_t bytes = lent(call, &buffer);
     memset(given->out, 0x5a, sizeof given->out);
-    if (buffers) {
-        memset(lent_words, 0x5a, sizeof lent_words);
-        memset(lent_bytes, 0x5a, sizeof lent_bytes);
-    }
+    memset(buffer, 0x5a, bytes);
     given->told = answer(version, call, given->out);
-    if (buffers) {
-        memcpy(given->words, lent_words, sizeof lent_words);
-        memcpy(given->bytes, lent_bytes, sizeof lent_bytes);
-    }
+    memcpy(given->buffer, buffer, bytes);
+}
+
+static void compare_with(const struct given *first, const struct version *version, const struct call *call)
+{
+    static struct given other;
+    void *buffer;
+    size_t bytes = lent(call, &buffer);
+    give(version, call, &other);
+    if (first->told == other.told && !memcmp(first->out, other.out, sizeof first->out) && !memcmp(first->buffer, other.buffer, bytes))
+        return;
+    fprintf(stderr, "%s and %s differ after %zu equal answers, in a call of kind %d:\n", versions[0].name, version->name, compared,
+            call->kind);
+    for (int i = 0; i < NUMBERS; i++)
+        fprintf(stderr, "  %llu  %llu\n", (unsigned long long)first->out[i], (unsigned long long)other.out[i]);
+    fail("the answers differ");
 }
 
 static void compare(const struct call *call)
 {
-    static struct given first, other;
+    static struct given first;
     give(&versions[0], call, &first);
-    for (int v = 1; v < VERSIONS; v++) {
-        give(&versions[v], call, &other);
-        if (first.told == other.told && !memcmp(first.out, other.out, sizeof first.out) &&
-            !memcmp(first.words, other.words, sizeof first.words) && !memcmp(first.bytes, other.bytes, sizeof first.bytes))
-            continue;
-        fprintf(stderr, "%s and %s differ after %zu equal answers, in a call of kind %d:\n", versions[0].name, versions[v].name,
-                compared, call->kind);
-        for (int i = 0; i < 5; i++)
-            fprintf(stderr, "  %llu  %llu\n", (unsigned long long)first.out[i], (unsigned long long)other.out[i]);
-        fail("the answers differ");
-    }
+    for (int v = 1; v < VERSIONS; v++)
+        compare_with(&first, &versions[v], call);
+    if (call->kind == PARSE && first.out[0] != 4 && first.out[0] != 6)
+        compare_with(&first, &run_alone, call);
     compared++;
+}
+
+/* A parse with ample room and allowance. */
+static struct call parse_call(const struct image *image, const char *query, size_t bytes)
+{
+    return (struct call){PARSE, image, (const uint8_t *)query, bytes, 0, 0, UINT32_MAX, MOST_TREE};
 }
 
 /* Every byte of a pack text is changed in several ways, one at a time, and the text is cut short after each byte. */
@@ -291,25 +440,57 @@ static void compare_damaged_text(const struct image *image)
         compare(&(struct call){.kind = WRITE, .image = image, .room = room});
 }
 
-/* Every word of a pack is changed in several ways, one at a time, and the image is cut short. */
-static void compare_damaged_image(const struct image *good, bool writes)
+/* Every word of a pack is changed in several ways, one at a time, and the image is cut short. The query is parsed with each. */
+static void compare_damaged_image(const struct image *good, const char *query, bool writes)
 {
     static struct image image;
     image = *good;
     struct call call = {.kind = SHAPE, .image = &image}, write = {.kind = WRITE, .image = &image, .room = MOST_BYTES};
+    struct call check = {.kind = CHECK, .image = &image}, parse = parse_call(&image, query, strlen(query));
     for (size_t i = 0; i < good->count; i++) {
         uint16_t word = good->words[i];
         const uint16_t other[] = {0, 1, 2, 3, 64, 255, 65535, (uint16_t)(word + 1), (uint16_t)(word - 1), (uint16_t)draw(260)};
         for (size_t k = 0; k < sizeof other / sizeof *other; k++) {
             image.words[i] = other[k];
             compare(&call);
+            compare(&check);
+            compare(&parse);
         }
         if (writes)
             compare(&write);
         image.words[i] = word;
     }
-    for (image.count = 0; image.count < good->count; image.count += 1 + image.count / 8)
+    for (image.count = 0; image.count < good->count; image.count += 1 + image.count / 8) {
         compare(&call);
+        compare(&check);
+        compare(&parse);
+    }
+}
+
+/* A query with every room up to its records and one more, every allowance up to its moves and one more, and with bytes changed. */
+static void compare_parses(const struct image *image, const char *query)
+{
+    size_t bytes = strlen(query);
+    struct call call = parse_call(image, query, bytes);
+    uint64_t out[NUMBERS];
+    answer(&versions[0], &call, out);
+    for (size_t room = 0; room < 4 * (out[4] + 2); room++) {
+        call.room = room;
+        compare(&call);
+    }
+    for (uint32_t allowance = 0; allowance < out[5] + 2; allowance++) {
+        call.allowance = allowance;
+        compare(&call);
+    }
+    uint8_t text[100];
+    call = parse_call(image, (const char *)text, bytes);
+    for (int i = 0; i < 3000; i++) {
+        memcpy(text, query, bytes);
+        for (size_t changes = 1 + draw(3); changes > 0; changes--)
+            text[draw(bytes)] = draw(2) ? (uint8_t)query[draw(bytes)] : (uint8_t)(32 + draw(96));
+        call.text_bytes = draw(4) ? bytes : draw(bytes + 1);
+        compare(&call);
+    }
 }
 
 /* Short texts, with any start, set and allowance. */
@@ -336,7 +517,7 @@ static double now(void)
 
 static double batch(const struct version *version, const struct call *call, size_t calls)
 {
-    uint64_t out[5];
+    uint64_t out[NUMBERS];
     double begin = now();
     for (size_t i = 0; i < calls; i++) {
         answer(version, call, out);
@@ -354,22 +535,27 @@ struct row {
     uint64_t code, moves;
     const char *unit;
     double per_second;
-    /* How many calls a batch has, and the seconds of one call, by version. */
-    size_t calls[VERSIONS];
-    double seconds[VERSIONS];
+    /* How many calls a batch has, and the seconds of one call, by version; the last is plain C's run alone, of a parse. */
+    size_t calls[VERSIONS + 1];
+    double seconds[VERSIONS + 1];
 };
+
+static const struct version *version_of(const struct row *row, int v)
+{
+    return v < VERSIONS ? &versions[v] : row->call.kind == PARSE ? &run_alone : NULL;
+}
 
 /* Tests that the row is what it says, and makes its batches long enough. */
 static void prepare(struct row *row)
 {
-    uint64_t out[5] = {0};
+    uint64_t out[NUMBERS] = {0};
     answer(&versions[0], &row->call, out);
     if (out[0] != row->code || (row->call.kind == SCAN && out[4] != row->moves))
         fail("a row is not what it says");
-    for (int v = 0; v < VERSIONS; v++) {
+    for (int v = 0; v <= VERSIONS && version_of(row, v); v++) {
         row->seconds[v] = 1e9;
         row->calls[v] = 1;
-        while (batch(&versions[v], &row->call, row->calls[v]) < BATCH_SECONDS / 2)
+        while (batch(version_of(row, v), &row->call, row->calls[v]) < BATCH_SECONDS / 2)
             row->calls[v] *= 2;
     }
 }
@@ -377,11 +563,20 @@ static void prepare(struct row *row)
 /* One more batch of each version, in turn; the least counts. */
 static void measure(struct row *row)
 {
-    for (int v = 0; v < VERSIONS; v++) {
-        double each = batch(&versions[v], &row->call, row->calls[v]) / (double)row->calls[v];
+    for (int v = 0; v <= VERSIONS && version_of(row, v); v++) {
+        double each = batch(version_of(row, v), &row->call, row->calls[v]) / (double)row->calls[v];
         if (each < row->seconds[v])
             row->seconds[v] = each;
     }
+}
+
+static void measure_all(struct row *rows, size_t count)
+{
+    for (size_t i = 0; i < count; i++)
+        prepare(&rows[i]);
+    for (int repeat = 0; repeat < REPEATS; repeat++)
+        for (size_t i = 0; i < count; i++)
+            measure(&rows[i]);
 }
 
 static void show(const struct row *row)
@@ -425,16 +620,96 @@ static struct row text_row(const char *what, const struct image *image, const ui
                         .per_second = 1e9 / (double)bytes};
 }
 
-int main(void)
+/* A whole call, in microseconds. */
+static struct row call_row(const char *what, struct call call, size_t size, const char *sized)
 {
-    static struct image small, middle, greatest, late, many, rejects;
-    read_pack(&small, small_pack);
+    return (struct row){.what = what, .call = call, .size = size, .sized = sized, .unit = "us per call", .per_second = 1e6};
+}
+
+static struct row check_row(const char *what, const struct image *image)
+{
+    return call_row(what, (struct call){.kind = CHECK, .image = image}, image->count, "words");
+}
+
+static struct row query_row(const char *what, const struct image *image, const char *query)
+{
+    return call_row(what, parse_call(image, query, strlen(query)), strlen(query), "bytes");
+}
+
+static struct row parse_row(const char *what, const struct image *image, const char *text, size_t bytes)
+{
+    return (struct row){.what = what, .call = parse_call(image, text, bytes), .size = bytes, .sized = "bytes", .unit = "ns per byte",
+                        .per_second = 1e9 / (double)bytes};
+}
+
+/* A JSON text of about 60,000 bytes, with all that JSON has. */
+static size_t draw_json(char text[MOST_BYTES])
+{
+    static const char *const names[] = {"std::sort", "malloc", "parse body", "main", "read \\\"quoted\\\""};
+    static const char form[] = "%s{\"id\": %u, \"name\": \"%s\", \"share\": %u.%uE-2,\n"
+                               " \"calls\": [%u, -%u, []], \"live\": %s, \"next\": null}";
+    size_t bytes = 0;
+    while (bytes < 60000)
+        bytes += (size_t)snprintf(text + bytes, MOST_BYTES - bytes, form, bytes ? ",\n" : "[", (unsigned)draw(100000), names[draw(5)],
+                                  (unsigned)draw(100), (unsigned)draw(1000), (unsigned)draw(1000), (unsigned)draw(1000),
+                                  draw(2) ? "true" : "false");
+    text[bytes++] = ']';
+    return bytes;
+}
+
+static void show_head(const char *what)
+{
+    printf("| %-44s | %-12s | %-11s | %10s | %10s | %10s | %8s | %11s |\n", what, "size", "unit", versions[0].name, versions[1].name,
+           versions[2].name, "proved/C", "proved/Rust");
+    printf("|---|---|---|---|---|---|---|---|\n");
+}
+
+/* The aim for a short query: no slower than plain C's run without its shape test and 0.15 ns for each word of the pack. */
+static void show_aim(const struct row *row)
+{
+    double run = row->seconds[VERSIONS] * 1e6, words = (double)row->call.image->count * 0.15e-3, proved = row->seconds[0] * 1e6;
+    printf("| %-44s | %10.3f | %10.3f | %10.3f | %10.3f | %8.2f |\n", row->what, proved, run, words, run + words, proved / (run + words));
+}
+
+/* The worst packs without a scanner, by parse states and productions. */
+static int growth(void)
+{
+    static struct image images[16];
+    static struct row rows[16];
+    static char names[16][45];
+    for (size_t i = 0; i < 16; i++) {
+        size_t states = (size_t)16 << i / 4, productions = (size_t)16 << i % 4;
+        worst_pack(&images[i], states, productions, false);
+        snprintf(names[i], sizeof names[i], "check, S = %zu, P = %zu", states, productions);
+        rows[i] = check_row(names[i], &images[i]);
+        compare(&rows[i].call);
+    }
+    measure_all(rows, 16);
+    show_head("what");
+    for (size_t i = 0; i < 16; i++)
+        show(&rows[i]);
+    return 0;
+}
+
+int main(int words, char **word)
+{
+    if (words < 2 || words > 3 || (words == 3 && strcmp(word[2], "--growth")))
+        fail("usage: bench PACKS [--growth]");
+    if (words == 3)
+        return growth();
+    static struct image small, middle, greatest, late, many, rejects, json, profile, passing, worst;
+    static uint8_t small_text[MOST_BYTES], json_text[MOST_BYTES], profile_text[MOST_BYTES], large_text[MOST_BYTES];
+    read_pack(&small, (const uint8_t *)small_pack, strlen(small_pack));
     if (small.count != 189)
         fail("the small pack has not 189 words");
+    size_t json_bytes = read_file(&json, word[1], "json.pack", json_text);
+    size_t profile_bytes = read_file(&profile, word[1], "profile.pack", profile_text);
     draw_pack(&middle, (struct sizes){24, 12, 40, 60, 50, 16, 20, 6}, false, 3, 6);
     draw_pack(&greatest, (struct sizes){64, 32, 128, 128, 128, 32, 64, 32}, false, 3, 6);
-    if (greatest.count != MOST_WORDS)
-        fail("the greatest pack has not 20589 words");
+    passing_pack(&passing);
+    worst_pack(&worst, 128, 128, true);
+    if (greatest.count != MOST_WORDS || passing.count != MOST_WORDS || worst.count != MOST_WORDS)
+        fail("a greatest pack has not 20589 words");
     late = greatest;
     size_t last_action = 13 + 64 * 4 + 128 * 16 + 128 * 64 - 1;
     late.words[last_action] = 65535;
@@ -446,14 +721,17 @@ int main(void)
         name[i] = (uint8_t)(97 + draw(26));
         any[i] = (uint8_t)draw(256);
     }
-
-    static uint8_t small_text[MOST_BYTES], large_text[MOST_BYTES];
+    static char document[MOST_BYTES];
+    size_t document_bytes = draw_json(document);
     size_t small_bytes = write_pack(&small, small_text), large_bytes = write_pack(&greatest, large_text);
+    const char *const tax = "tax by day", *const share = "share of std::sort under main", *const top = "top 10 of malloc group by core";
 
     struct row rows[] = {
         shape_row("shape, small pack", &small, small.count, 0),
-        shape_row("shape, middle pack", &middle, middle.count, 0),
-        shape_row("shape, greatest pack", &greatest, greatest.count, 0),
+        shape_row("shape, json pack", &json, json.count, 0),
+        shape_row("shape, profile pack", &profile, profile.count, 0),
+        shape_row("shape, drawn middle pack", &middle, middle.count, 0),
+        shape_row("shape, drawn greatest pack", &greatest, greatest.count, 0),
         shape_row("shape, refused at the last action cell", &late, last_action + 1, 4),
         scan_row("scan, small pack, one long name", &small, name, MOST_BYTES, 4),
         scan_row("scan, 128 states, accepting now and then", &many, any, MOST_BYTES, UINT64_MAX),
@@ -462,33 +740,48 @@ int main(void)
         short_row("scan, small pack, a name of 10 bytes", &small, name, 10, 4),
         short_row("scan, 128 states, 10 bytes", &many, any, 10, UINT64_MAX),
         text_row("read, small pack", NULL, small_text, small_bytes),
-        text_row("read, greatest pack", NULL, large_text, large_bytes),
+        text_row("read, json pack", NULL, json_text, json_bytes),
+        text_row("read, profile pack", NULL, profile_text, profile_bytes),
+        text_row("read, drawn greatest pack", NULL, large_text, large_bytes),
         text_row("write, small pack", &small, NULL, small_bytes),
-        text_row("write, greatest pack", &greatest, NULL, large_bytes),
+        text_row("write, json pack", &json, NULL, json_bytes),
+        text_row("write, profile pack", &profile, NULL, profile_bytes),
+        text_row("write, drawn greatest pack", &greatest, NULL, large_bytes),
+        check_row("check, small pack", &small),
+        check_row("check, json pack", &json),
+        check_row("check, profile pack", &profile),
+        check_row("check, greatest pack that passes", &passing),
+        check_row("check, worst pack that passes", &worst),
+        parse_row("parse, json pack, a long text", &json, document, document_bytes),
+        query_row("parse, small pack, tax by day", &small, tax),
+        query_row("parse, profile pack, share of ..", &profile, share),
+        query_row("parse, profile pack, top 10 of ..", &profile, top),
     };
-    enum { ROWS = sizeof rows / sizeof *rows };
+    enum { ROWS = sizeof rows / sizeof *rows, QUERIES = 3 };
 
     for (size_t i = 0; i < ROWS; i++)
         compare(&rows[i].call);
-    compare_damaged_image(&small, true);
-    compare_damaged_image(&middle, false);
+    compare_damaged_image(&small, tax, true);
+    compare_damaged_image(&middle, tax, false);
+    compare_damaged_image(&json, "[1, {\"a\": null}]", false);
     compare_damaged_text(&small);
     compare_scans(&small);
     compare_scans(&middle);
     compare_scans(&rejects);
-    printf("The same answer from all, %zu times: on each input below, on images and pack texts with one change, and on short scans.\n\n",
+    compare_parses(&small, tax);
+    compare_parses(&profile, share);
+    compare_parses(&profile, top);
+    compare_parses(&json, "[1, {\"a\": null}, -2.5e3]");
+    printf("The same answer from all, %zu times: on each input below, on images, pack texts and queries with changes, on short scans.\n\n",
            compared);
 
-    for (size_t i = 0; i < ROWS; i++)
-        prepare(&rows[i]);
-    for (int repeat = 0; repeat < REPEATS; repeat++)
-        for (size_t i = 0; i < ROWS; i++)
-            measure(&rows[i]);
-
-    printf("| %-44s | %-12s | %-11s | %10s | %10s | %10s | %8s | %11s |\n", "what", "size", "unit", versions[0].name, versions[1].name,
-           versions[2].name, "proved/C", "proved/Rust");
-    printf("|---|---|---|---|---|---|---|---|\n");
+    measure_all(rows, ROWS);
+    show_head("what");
     for (size_t i = 0; i < ROWS; i++)
         show(&rows[i]);
+    printf("\n| %-44s | %10s | %10s | %10s | %10s | %8s |\n|---|---|---|---|---|---|\n", "short queries, us per call", "proved",
+           "C's run", "words", "aim", "ratio");
+    for (size_t i = ROWS - QUERIES; i < ROWS; i++)
+        show_aim(&rows[i]);
     return 0;
 }

@@ -1,5 +1,5 @@
-/* Shape, the scan called by itself, the reader and the writer in plain C, written from document 01 the obvious way: each test leaves at the
- * first wrong word or line. */
+/* Shape, the scan called by itself, the reader and the writer, the check and the parse in plain C, written from document 01 the obvious
+ * way: each test leaves at the first wrong word, line or place. */
 #include "plain.h"
 
 #include <stdbool.h>
@@ -166,6 +166,63 @@ size_t plain_c_shape(const uint16_t *img, size_t img_words, uint64_t *out, size_
     return 2;
 }
 
+static void class_row(const uint16_t *img, const struct pack *p, uint8_t row[256])
+{
+    memset(row, 0, 256);
+    for (size_t r = 0; r < p->ranges; r++) {
+        const uint16_t *range = img + p->class + r * 3;
+        for (size_t b = range[0]; b <= range[1]; b++)
+            row[b] = (uint8_t)range[2];
+    }
+}
+
+/* A pack, its row of classes, and the moves taken so far over all scans of one call. */
+struct scanner {
+    const uint16_t *img;
+    struct pack p;
+    uint8_t row[256];
+    uint32_t moves, allowance;
+};
+
+/* What one scan gives; an empty set for no match. */
+struct found {
+    uint64_t set;
+    size_t length;
+    bool used_up;
+};
+
+static struct found one_scan(struct scanner *s, const uint8_t *text, size_t bytes, uint64_t valid)
+{
+    const uint16_t *img = s->img;
+    const struct pack *p = &s->p;
+    struct found found = {0, 0, false};
+    size_t state = 0;
+    uint32_t left = s->allowance - s->moves;
+    size_t i = 0;
+    for (; i < bytes; i++) {
+        if ((set_at(img, p->scan + state * 12 + 8) & valid) == 0)
+            break;
+        size_t to = img[p->move + state * p->classes + s->row[text[i]]];
+        if (to == 0)
+            break;
+        if (i == left) {
+            s->moves = s->allowance;
+            return (struct found){0, 0, true};
+        }
+        state = to - 1;
+        uint64_t acc = set_at(img, p->scan + state * 12) & valid;
+        if (acc != 0) {
+            found.set = acc;
+            found.length = i + 1;
+        } else if ((set_at(img, p->scan + state * 12 + 4) & valid) != 0) {
+            found.set = 0;
+            found.length = 0;
+        }
+    }
+    s->moves += (uint32_t)i;
+    return found;
+}
+
 static size_t tell(uint64_t *out, uint64_t code, uint64_t place, uint64_t set, uint64_t length, uint64_t moves)
 {
     out[0] = code;
@@ -186,41 +243,12 @@ size_t plain_c_scan(const uint16_t *img, size_t img_words, const uint8_t *text, 
     size_t wrong = first_wrong(img, img_words);
     if (wrong != GOOD)
         return tell(out, 4, wrong, 0, 0, 0);
-    struct pack p = pack_of(img);
-
-    uint8_t row[256];
-    memset(row, 0, sizeof row);
-    for (size_t r = 0; r < p.ranges; r++) {
-        const uint16_t *range = img + p.class + r * 3;
-        for (size_t b = range[0]; b <= range[1]; b++)
-            row[b] = (uint8_t)range[2];
-    }
-
+    struct scanner s = {.img = img, .p = pack_of(img), .allowance = allowance};
+    class_row(img, &s.p, s.row);
     if (start > text_bytes)
         start = text_bytes;
-    uint64_t valid = set & below(p.terminals) & ~UINT64_C(1);
-    uint64_t kept = 0;
-    size_t state = 0, length = 0, moves = 0;
-    for (size_t i = start; i < text_bytes; i++) {
-        if ((set_at(img, p.scan + state * 12 + 8) & valid) == 0)
-            break;
-        size_t to = img[p.move + state * p.classes + row[text[i]]];
-        if (to == 0)
-            break;
-        if (moves == allowance)
-            return tell(out, 13, start, 0, 0, moves);
-        state = to - 1;
-        moves++;
-        uint64_t acc = set_at(img, p.scan + state * 12) & valid;
-        if (acc != 0) {
-            kept = acc;
-            length = moves;
-        } else if ((set_at(img, p.scan + state * 12 + 4) & valid) != 0) {
-            kept = 0;
-            length = 0;
-        }
-    }
-    return tell(out, 0, start, kept, length, moves);
+    struct found found = one_scan(&s, text + start, text_bytes - start, set & below(s.p.terminals) & ~UINT64_C(1));
+    return tell(out, found.used_up ? 13 : 0, start, found.set, found.length, s.moves);
 }
 
 /* ---- the text form ---- */
@@ -508,4 +536,363 @@ size_t plain_c_write(const uint16_t *img, size_t img_words, uint8_t *buffer, siz
     w.bytes = 0;
     put_lines(&w);
     return tell2(out, 0, w.bytes);
+}
+
+/* ---- the check ---- */
+
+static uint64_t valid_set(const uint16_t *img, const struct pack *p, size_t s)
+{
+    uint64_t valid = 0;
+    for (size_t t = 0; t < p->terminals; t++)
+        if (img[p->act + s * p->terminals + t] != 0)
+            valid |= UINT64_C(1) << t;
+    return valid;
+}
+
+/* The number of the group that equals the set, or GOOD where there is none. */
+static size_t group_of(const uint16_t *img, const struct pack *p, uint64_t set)
+{
+    for (size_t g = 0; g < p->groups; g++)
+        if (set_at(img, p->group + g * 5) == set)
+            return g;
+    return GOOD;
+}
+
+static bool k1(const uint16_t *img, const struct pack *p, size_t q)
+{
+    uint64_t rej = set_at(img, p->scan + q * 12 + 4), matching = set_at(img, p->scan + q * 12) | rej, outranked = 0;
+    for (size_t t = 0; t < p->terminals; t++)
+        if (has(matching, t) && (set_at(img, p->dom + t * 4) & matching) != 0)
+            outranked |= UINT64_C(1) << t;
+    return rej == outranked;
+}
+
+static bool k2(const uint16_t *img, const struct pack *p, size_t q)
+{
+    uint64_t poss = set_at(img, p->scan + q * 12 + 8);
+    if ((set_at(img, p->scan + q * 12) | set_at(img, p->scan + q * 12 + 4)) & ~poss)
+        return false;
+    for (size_t c = 0; c < p->classes; c++) {
+        size_t to = img[p->move + q * p->classes + c];
+        if (to != 0 && set_at(img, p->scan + (to - 1) * 12 + 8) & ~poss)
+            return false;
+    }
+    return true;
+}
+
+/* The states with an edge into each state, and the symbol of its edges in. */
+struct edges {
+    uint8_t from[128][128];
+    size_t count[128];
+    uint16_t symbol[128];
+    bool several[128];
+};
+
+static void add_edge(struct edges *e, size_t from, size_t symbol, size_t to)
+{
+    size_t *count = &e->count[to];
+    if (*count == 0)
+        e->symbol[to] = (uint16_t)symbol;
+    else if (e->symbol[to] != symbol)
+        e->several[to] = true;
+    if (*count == 0 || e->from[to][*count - 1] != from)
+        e->from[to][(*count)++] = (uint8_t)from;
+}
+
+static void find_edges(const uint16_t *img, const struct pack *p, struct edges *e)
+{
+    memset(e->count, 0, sizeof e->count);
+    memset(e->several, 0, sizeof e->several);
+    for (size_t s = 0; s < p->states; s++) {
+        for (size_t t = 0; t < p->terminals; t++) {
+            uint16_t code = img[p->act + s * p->terminals + t];
+            if (code >= 2 && code % 2 == 0)
+                add_edge(e, s, t, (code - 2) / 2);
+        }
+        for (size_t n = 0; n < p->nonterminals; n++) {
+            uint16_t code = img[p->go + s * p->nonterminals + n];
+            if (code != 0)
+                add_edge(e, s, 64 + n, (size_t)code - 1);
+        }
+    }
+}
+
+/* K5 of one reduction, after K4. */
+static bool goes_back(const uint16_t *img, const struct pack *p, const struct edges *e, size_t s, size_t production)
+{
+    const uint16_t *words = img + p->prod + production * 16;
+    bool reached[128] = {false};
+    reached[s] = true;
+    for (size_t i = words[1]; i > 0; i--) {
+        bool before[128] = {false};
+        for (size_t v = 0; v < p->states; v++) {
+            if (!reached[v])
+                continue;
+            if (v == 0 || (e->count[v] != 0 && e->symbol[v] != words[1 + i]))
+                return false;
+            for (size_t k = 0; k < e->count[v]; k++)
+                before[e->from[v][k]] = true;
+        }
+        memcpy(reached, before, sizeof reached);
+    }
+    for (size_t v = 0; v < p->states; v++)
+        if (reached[v] && img[p->go + v * p->nonterminals + words[0]] == 0)
+            return false;
+    return true;
+}
+
+/* The first production of a row whose reduction fails, or GOOD. */
+static size_t k5(const uint16_t *img, const struct pack *p, const struct edges *e, size_t s)
+{
+    bool reduces[128] = {false};
+    for (size_t t = 0; t < p->terminals; t++) {
+        uint16_t code = img[p->act + s * p->terminals + t];
+        if (code >= 3 && code % 2 == 1)
+            reduces[(code - 3) / 2] = true;
+    }
+    for (size_t i = 0; i < p->productions; i++)
+        if (reduces[i] && !goes_back(img, p, e, s, i))
+            return i;
+    return GOOD;
+}
+
+static bool k6(const uint16_t *img, const struct pack *p, const struct edges *e, size_t s)
+{
+    if (img[p->act + s * p->terminals] != 1)
+        return true;
+    if (s == 0)
+        return false;
+    return e->count[s] == 0 || (e->count[s] == 1 && e->from[s][0] == 0 && e->symbol[s] == 64);
+}
+
+static size_t tell4(uint64_t *out, uint64_t code, uint64_t number, uint64_t first, uint64_t second)
+{
+    out[0] = code;
+    out[1] = number;
+    out[2] = first;
+    out[3] = second;
+    return 4;
+}
+
+size_t plain_c_check(const uint16_t *img, size_t img_words, uint64_t *out, size_t out_len)
+{
+    if (out_len < 4)
+        return 0;
+    size_t wrong = first_wrong(img, img_words);
+    if (wrong != GOOD)
+        return tell4(out, 4, wrong, 0, 0);
+    struct pack p = pack_of(img);
+    for (size_t q = 0; q < p.scan_states; q++)
+        if (!k1(img, &p, q))
+            return tell4(out, 5, 1, q, 0);
+    for (size_t q = 0; q < p.scan_states; q++)
+        if (!k2(img, &p, q))
+            return tell4(out, 5, 2, q, 0);
+    for (size_t s = 0; s < p.states; s++) {
+        uint64_t valid = valid_set(img, &p, s);
+        for (size_t q = 0; q < p.scan_states; q++) {
+            uint64_t seen = set_at(img, p.scan + q * 12) & valid;
+            if ((seen & (seen - 1)) != 0 && group_of(img, &p, seen) == GOOD)
+                return tell4(out, 5, 3, s, q);
+        }
+    }
+    struct edges e;
+    find_edges(img, &p, &e);
+    for (size_t v = 0; v < p.states; v++)
+        if (e.several[v] || (v == 0 && e.count[v] != 0))
+            return tell4(out, 5, 4, v, 0);
+    for (size_t s = 0; s < p.states; s++) {
+        size_t production = k5(img, &p, &e, s);
+        if (production != GOOD)
+            return tell4(out, 5, 5, s, production);
+    }
+    for (size_t s = 0; s < p.states; s++)
+        if (!k6(img, &p, &e, s))
+            return tell4(out, 5, 6, s, 0);
+    return tell4(out, 0, 0, 0, 0);
+}
+
+/* ---- the parse ---- */
+
+/* Beside the codes: the run goes on. */
+enum { GOES_ON = 99 };
+
+struct run {
+    struct scanner scanner;
+    const uint8_t *text;
+    size_t bytes, place;
+    uint16_t *tree;
+    size_t room, records;
+    uint16_t stack[512];
+    size_t height;
+    /* What some refusals give beside the place. */
+    size_t length, terminal;
+};
+
+static struct found scan_here(struct run *r, uint64_t valid)
+{
+    return one_scan(&r->scanner, r->text + r->place, r->bytes - r->place, valid);
+}
+
+static int skip_layout(struct run *r, uint64_t layout)
+{
+    for (;;) {
+        struct found found = scan_here(r, layout);
+        if (found.used_up)
+            return 13;
+        if (found.set == 0)
+            return GOES_ON;
+        r->place += found.length;
+    }
+}
+
+static size_t lowest(uint64_t set)
+{
+    size_t t = 0;
+    while (!has(set, t))
+        t++;
+    return t;
+}
+
+/* Writes a record and pushes a state on the lowest `height` ones. */
+static int write_and_push(struct run *r, size_t height, const uint16_t record[4], size_t state)
+{
+    if (r->records == r->room)
+        return 11;
+    if (height == 512)
+        return 12;
+    memcpy(r->tree + r->records * 4, record, 4 * sizeof *record);
+    r->records++;
+    r->stack[height] = (uint16_t)state;
+    r->height = height + 1;
+    return GOES_ON;
+}
+
+static int reduce(struct run *r, size_t production)
+{
+    const uint16_t *img = r->scanner.img;
+    const struct pack *p = &r->scanner.p;
+    const uint16_t *words = img + p->prod + production * 16;
+    size_t lhs = words[0], len = words[1];
+    if (r->height < len + 1)
+        return 10;
+    size_t height = r->height - len, uncovered = r->stack[height - 1];
+    size_t code = img[p->go + uncovered * p->nonterminals + lhs];
+    if (code == 0)
+        return 10;
+    const uint16_t node[4] = {(uint16_t)(64 + lhs), (uint16_t)production, (uint16_t)len, (uint16_t)uncovered};
+    return write_and_push(r, height, node, code - 1);
+}
+
+/* The terminal and the length of the token that the state on top sees; GOES_ON, or a code. */
+static int token(struct run *r, size_t top, size_t *terminal, size_t *length)
+{
+    const uint16_t *img = r->scanner.img;
+    const struct pack *p = &r->scanner.p;
+    struct found found = scan_here(r, valid_set(img, p, top) & ~UINT64_C(1));
+    if (found.used_up)
+        return 13;
+    if (found.set == 0) {
+        found = scan_here(r, below(p->terminals) & ~UINT64_C(1) & ~set_at(img, 9));
+        if (found.used_up)
+            return 13;
+        if (found.set == 0)
+            return 7;
+        r->length = found.length;
+        r->terminal = lowest(found.set);
+        return 8;
+    }
+    *length = found.length;
+    if ((found.set & (found.set - 1)) == 0) {
+        *terminal = lowest(found.set);
+        return GOES_ON;
+    }
+    size_t group = group_of(img, p, found.set);
+    if (group == GOOD) {
+        r->length = found.length;
+        return 9;
+    }
+    *terminal = img[p->group + group * 5 + 4];
+    return GOES_ON;
+}
+
+static int step(struct run *r, uint64_t layout)
+{
+    const uint16_t *img = r->scanner.img;
+    const struct pack *p = &r->scanner.p;
+    size_t top = r->stack[r->height - 1], terminal = 0, length = 0;
+    if (r->place != r->bytes) {
+        int code = token(r, top, &terminal, &length);
+        if (code != GOES_ON)
+            return code;
+    }
+    size_t code = img[p->act + top * p->terminals + terminal];
+    if (code == 0)
+        return 8;
+    if (code == 1)
+        return r->height == 2 ? 0 : 10;
+    if (code % 2 == 1)
+        return reduce(r, (code - 3) / 2);
+    const uint16_t leaf[4] = {(uint16_t)terminal, (uint16_t)r->place, (uint16_t)length, (uint16_t)top};
+    int shifted = write_and_push(r, r->height, leaf, (code - 2) / 2);
+    if (shifted != GOES_ON)
+        return shifted;
+    r->place += length;
+    return skip_layout(r, layout);
+}
+
+static size_t tell6(uint64_t *out, uint64_t code, uint64_t place, uint64_t length, uint64_t terminal, uint64_t records, uint64_t moves)
+{
+    out[0] = code;
+    out[1] = place;
+    out[2] = length;
+    out[3] = terminal;
+    out[4] = records;
+    out[5] = moves;
+    return 6;
+}
+
+static size_t run(const uint16_t *img, const uint8_t *text, size_t text_bytes, uint16_t *tree, size_t tree_words, uint32_t allowance,
+                  uint64_t *out)
+{
+    struct run r;
+    r.scanner.img = img;
+    r.scanner.p = pack_of(img);
+    r.scanner.moves = 0;
+    r.scanner.allowance = allowance;
+    class_row(img, &r.scanner.p, r.scanner.row);
+    r.text = text;
+    r.bytes = text_bytes;
+    r.tree = tree;
+    r.room = tree_words / 4 < 65535 ? tree_words / 4 : 65535;
+    r.place = r.records = r.length = r.terminal = 0;
+    r.stack[0] = 0;
+    r.height = 1;
+    uint64_t layout = set_at(img, 9);
+    int code = skip_layout(&r, layout);
+    while (code == GOES_ON)
+        code = step(&r, layout);
+    return tell6(out, (uint64_t)code, r.place, r.length, r.terminal, r.records, r.scanner.moves);
+}
+
+size_t plain_c_parse(const uint16_t *img, size_t img_words, const uint8_t *text, size_t text_bytes, uint16_t *tree, size_t tree_words,
+                     uint32_t allowance, uint64_t *out, size_t out_len)
+{
+    if (out_len < 6)
+        return 0;
+    if (text_bytes > 65535)
+        return tell6(out, 6, 0, 0, 0, 0, 0);
+    size_t wrong = first_wrong(img, img_words);
+    if (wrong != GOOD)
+        return tell6(out, 4, wrong, 0, 0, 0, 0);
+    return run(img, text, text_bytes, tree, tree_words, allowance, out);
+}
+
+size_t plain_c_run(const uint16_t *img, size_t img_words, const uint8_t *text, size_t text_bytes, uint16_t *tree, size_t tree_words,
+                   uint32_t allowance, uint64_t *out, size_t out_len)
+{
+    (void)img_words;
+    if (out_len < 6)
+        return 0;
+    return run(img, text, text_bytes, tree, tree_words, allowance, out);
 }

@@ -1,5 +1,6 @@
-//! Shape, the scan called by itself, the reader and the writer in plain safe Rust, written from document 01 the obvious way: each test
-//! leaves at the first wrong word or line. Only the entry points at the end, which turn C's pointers into slices, hold `unsafe`.
+//! Shape, the scan called by itself, the reader and the writer, the check and the parse in plain safe Rust, written from document 01 the
+//! obvious way: each test leaves at the first wrong word, line or place. Only the entry points at the end, which turn C's pointers into
+//! slices, hold `unsafe`.
 
 struct Pack {
     terminals: usize,
@@ -209,6 +210,57 @@ fn class_row(img: &[u16], p: &Pack) -> [u8; 256] {
     row
 }
 
+/// A pack, its row of classes, and the moves taken so far over all scans of one call.
+struct Scanner<'i> {
+    img: &'i [u16],
+    p: Pack,
+    row: [u8; 256],
+    moves: u32,
+    allowance: u32,
+}
+
+/// A match: the set and the length.
+type Found = Option<(u64, usize)>;
+
+/// A move would go beyond the allowance.
+struct UsedUp;
+
+impl<'i> Scanner<'i> {
+    fn new(img: &'i [u16], p: Pack, allowance: u32) -> Scanner<'i> {
+        let row = class_row(img, &p);
+        Scanner { img, p, row, moves: 0, allowance }
+    }
+
+    fn scan(&mut self, text: &[u8], valid: u64) -> Result<Found, UsedUp> {
+        let (img, p) = (self.img, &self.p);
+        let mut found = None;
+        let (mut state, mut moves) = (0, self.moves);
+        for (&byte, length) in text.iter().zip(1..) {
+            if set_at(img, p.scan + state * 12 + 8) & valid == 0 {
+                break;
+            }
+            let to = usize::from(img[p.moves + state * p.classes + usize::from(self.row[usize::from(byte)])]);
+            if to == 0 {
+                break;
+            }
+            if moves == self.allowance {
+                self.moves = moves;
+                return Err(UsedUp);
+            }
+            state = to - 1;
+            moves += 1;
+            let acc = set_at(img, p.scan + state * 12) & valid;
+            if acc != 0 {
+                found = Some((acc, length));
+            } else if set_at(img, p.scan + state * 12 + 4) & valid != 0 {
+                found = None;
+            }
+        }
+        self.moves = moves;
+        Ok(found)
+    }
+}
+
 /// Code, place, set, length and moves.
 fn scan(img: &[u16], text: &[u8], start: usize, set: u64, allowance: u32) -> [u64; 5] {
     if text.len() > 65535 {
@@ -218,32 +270,15 @@ fn scan(img: &[u16], text: &[u8], start: usize, set: u64, allowance: u32) -> [u6
         Ok(p) => p,
         Err(place) => return [4, place as u64, 0, 0, 0],
     };
-    let row = class_row(img, &p);
     let start = start.min(text.len());
     let valid = set & below(p.terminals) & !1;
-    let (mut kept, mut length) = (0, 0);
-    let (mut state, mut moves) = (0, 0);
-    for &byte in &text[start..] {
-        if set_at(img, p.scan + state * 12 + 8) & valid == 0 {
-            break;
-        }
-        let to = usize::from(img[p.moves + state * p.classes + usize::from(row[usize::from(byte)])]);
-        if to == 0 {
-            break;
-        }
-        if moves == u64::from(allowance) {
-            return [13, start as u64, 0, 0, moves];
-        }
-        state = to - 1;
-        moves += 1;
-        let acc = set_at(img, p.scan + state * 12) & valid;
-        if acc != 0 {
-            (kept, length) = (acc, moves);
-        } else if set_at(img, p.scan + state * 12 + 4) & valid != 0 {
-            (kept, length) = (0, 0);
-        }
-    }
-    [0, start as u64, kept, length, moves]
+    let mut scanner = Scanner::new(img, p, allowance);
+    let (code, found) = match scanner.scan(&text[start..], valid) {
+        Ok(found) => (0, found),
+        Err(UsedUp) => (13, None),
+    };
+    let (set, length) = found.unwrap_or((0, 0));
+    [code, start as u64, set, length as u64, u64::from(scanner.moves)]
 }
 
 struct Reader<'t> {
@@ -510,6 +545,263 @@ fn write(img: &[u16], buffer: &mut [u8]) -> [u64; 2] {
     }
 }
 
+fn valid_set(img: &[u16], p: &Pack, s: usize) -> u64 {
+    let row = &img[p.act + s * p.terminals..p.act + (s + 1) * p.terminals];
+    row.iter().enumerate().filter(|(_, &code)| code != 0).fold(0, |set, (t, _)| set | 1 << t)
+}
+
+/// The chosen terminal of the group that equals the set.
+fn chosen_of(img: &[u16], p: &Pack, set: u64) -> Option<usize> {
+    img[p.group..p.end].chunks_exact(5).find(|group| set_at(group, 0) == set).map(|group| usize::from(group[4]))
+}
+
+fn k1(img: &[u16], p: &Pack, q: usize) -> bool {
+    let rej = set_at(img, p.scan + q * 12 + 4);
+    let matching = set_at(img, p.scan + q * 12) | rej;
+    let mut outranked = 0;
+    for t in 0..p.terminals {
+        if has(matching, t) && set_at(img, p.dom + t * 4) & matching != 0 {
+            outranked |= 1 << t;
+        }
+    }
+    rej == outranked
+}
+
+fn k2(img: &[u16], p: &Pack, q: usize) -> bool {
+    let poss = set_at(img, p.scan + q * 12 + 8);
+    let matching = set_at(img, p.scan + q * 12) | set_at(img, p.scan + q * 12 + 4);
+    let within = |to: usize| set_at(img, p.scan + (to - 1) * 12 + 8) & !poss == 0;
+    let row = &img[p.moves + q * p.classes..p.moves + (q + 1) * p.classes];
+    matching & !poss == 0 && row.iter().all(|&to| to == 0 || within(usize::from(to)))
+}
+
+/// For each state the edges into it: where each comes from, and its symbol.
+fn edges(img: &[u16], p: &Pack) -> Vec<Vec<(usize, usize)>> {
+    let mut into = vec![Vec::new(); p.states];
+    for s in 0..p.states {
+        for t in 0..p.terminals {
+            let code = usize::from(img[p.act + s * p.terminals + t]);
+            if code >= 2 && code % 2 == 0 {
+                into[(code - 2) / 2].push((s, t));
+            }
+        }
+        for n in 0..p.nonterminals {
+            let code = usize::from(img[p.goto + s * p.nonterminals + n]);
+            if code != 0 {
+                into[code - 1].push((s, 64 + n));
+            }
+        }
+    }
+    into
+}
+
+/// K5 of one reduction, after K4: the first edge's symbol is that of all.
+fn goes_back(img: &[u16], p: &Pack, into: &[Vec<(usize, usize)>], s: usize, production: usize) -> bool {
+    let words = &img[p.prod + production * 16..p.prod + production * 16 + 16];
+    let (lhs, len) = (usize::from(words[0]), usize::from(words[1]));
+    let mut reached = [false; 128];
+    reached[s] = true;
+    for &symbol in words[2..2 + len].iter().rev() {
+        let mut before = [false; 128];
+        for v in (0..p.states).filter(|&v| reached[v]) {
+            if v == 0 || into[v].first().is_some_and(|&(_, carried)| carried != usize::from(symbol)) {
+                return false;
+            }
+            for &(from, _) in &into[v] {
+                before[from] = true;
+            }
+        }
+        reached = before;
+    }
+    (0..p.states).all(|v| !reached[v] || img[p.goto + v * p.nonterminals + lhs] != 0)
+}
+
+/// The first production of a row whose reduction fails.
+fn k5(img: &[u16], p: &Pack, into: &[Vec<(usize, usize)>], s: usize) -> Option<usize> {
+    let mut reduces = [false; 128];
+    for t in 0..p.terminals {
+        let code = usize::from(img[p.act + s * p.terminals + t]);
+        if code >= 3 && code % 2 == 1 {
+            reduces[(code - 3) / 2] = true;
+        }
+    }
+    (0..p.productions).find(|&i| reduces[i] && !goes_back(img, p, into, s, i))
+}
+
+fn k6(img: &[u16], p: &Pack, into: &[Vec<(usize, usize)>], s: usize) -> bool {
+    img[p.act + s * p.terminals] != 1 || s != 0 && into[s].iter().all(|&edge| edge == (0, 64))
+}
+
+/// Code, number and places.
+fn check(img: &[u16]) -> [u64; 4] {
+    let p = match shape(img) {
+        Ok(p) => p,
+        Err(place) => return [4, place as u64, 0, 0],
+    };
+    if let Some(q) = (0..p.scan_states).find(|&q| !k1(img, &p, q)) {
+        return [5, 1, q as u64, 0];
+    }
+    if let Some(q) = (0..p.scan_states).find(|&q| !k2(img, &p, q)) {
+        return [5, 2, q as u64, 0];
+    }
+    for s in 0..p.states {
+        let valid = valid_set(img, &p, s);
+        for q in 0..p.scan_states {
+            let seen = set_at(img, p.scan + q * 12) & valid;
+            if seen.count_ones() > 1 && chosen_of(img, &p, seen).is_none() {
+                return [5, 3, s as u64, q as u64];
+            }
+        }
+    }
+    let into = edges(img, &p);
+    let several = |v: usize| into[v].iter().any(|edge| edge.1 != into[v][0].1);
+    if let Some(v) = (0..p.states).find(|&v| several(v) || v == 0 && !into[v].is_empty()) {
+        return [5, 4, v as u64, 0];
+    }
+    for s in 0..p.states {
+        if let Some(production) = k5(img, &p, &into, s) {
+            return [5, 5, s as u64, production as u64];
+        }
+    }
+    if let Some(s) = (0..p.states).find(|&s| !k6(img, &p, &into, s)) {
+        return [5, 6, s as u64, 0];
+    }
+    [0; 4]
+}
+
+struct Run<'i, 'l> {
+    scanner: Scanner<'i>,
+    layout: u64,
+    text: &'l [u8],
+    place: usize,
+    tree: &'l mut [u16],
+    records: usize,
+    stack: [u16; 512],
+    height: usize,
+}
+
+/// How a run ends: code, length and terminal.
+struct End(u64, usize, usize);
+
+impl From<UsedUp> for End {
+    fn from(_: UsedUp) -> End {
+        End(13, 0, 0)
+    }
+}
+
+impl Run<'_, '_> {
+    fn scan(&mut self, valid: u64) -> Result<Found, UsedUp> {
+        self.scanner.scan(&self.text[self.place..], valid)
+    }
+
+    fn skip_layout(&mut self) -> Result<(), End> {
+        while let Some((_, length)) = self.scan(self.layout)? {
+            self.place += length;
+        }
+        Ok(())
+    }
+
+    /// The terminal and the length of the token that the state on top sees.
+    fn token(&mut self, top: usize) -> Result<(usize, usize), End> {
+        let valid = valid_set(self.scanner.img, &self.scanner.p, top) & !1;
+        let Some((set, length)) = self.scan(valid)? else {
+            let others = below(self.scanner.p.terminals) & !1 & !self.layout;
+            return Err(match self.scan(others)? {
+                Some((set, length)) => End(8, length, set.trailing_zeros() as usize),
+                None => End(7, 0, 0),
+            });
+        };
+        if set.count_ones() == 1 {
+            return Ok((set.trailing_zeros() as usize, length));
+        }
+        match chosen_of(self.scanner.img, &self.scanner.p, set) {
+            Some(terminal) => Ok((terminal, length)),
+            None => Err(End(9, length, 0)),
+        }
+    }
+
+    /// Writes a record and pushes a state on the lowest `height` ones.
+    fn write_and_push(&mut self, height: usize, record: [usize; 4], state: usize) -> Result<(), End> {
+        let room = (self.tree.len() / 4).min(65535);
+        if self.records == room {
+            return Err(End(11, 0, 0));
+        }
+        if height == 512 {
+            return Err(End(12, 0, 0));
+        }
+        self.tree[self.records * 4..self.records * 4 + 4].copy_from_slice(&record.map(|word| word as u16));
+        self.records += 1;
+        self.stack[height] = state as u16;
+        self.height = height + 1;
+        Ok(())
+    }
+
+    fn reduce(&mut self, production: usize) -> Result<(), End> {
+        let (img, p) = (self.scanner.img, &self.scanner.p);
+        let at = p.prod + production * 16;
+        let (lhs, len) = (usize::from(img[at]), usize::from(img[at + 1]));
+        if self.height < len + 1 {
+            return Err(End(10, 0, 0));
+        }
+        let height = self.height - len;
+        let uncovered = usize::from(self.stack[height - 1]);
+        match usize::from(img[p.goto + uncovered * p.nonterminals + lhs]) {
+            0 => Err(End(10, 0, 0)),
+            code => self.write_and_push(height, [64 + lhs, production, len, uncovered], code - 1),
+        }
+    }
+
+    fn step(&mut self) -> Result<(), End> {
+        let top = usize::from(self.stack[self.height - 1]);
+        let (terminal, length) = if self.place == self.text.len() { (0, 0) } else { self.token(top)? };
+        let p = &self.scanner.p;
+        match usize::from(self.scanner.img[p.act + top * p.terminals + terminal]) {
+            0 => Err(End(8, 0, 0)),
+            1 if self.height == 2 => Err(End(0, 0, 0)),
+            1 => Err(End(10, 0, 0)),
+            code if code % 2 == 1 => self.reduce((code - 3) / 2),
+            code => {
+                self.write_and_push(self.height, [terminal, self.place, length, top], (code - 2) / 2)?;
+                self.place += length;
+                self.skip_layout()
+            }
+        }
+    }
+
+    fn run(&mut self) -> End {
+        let mut goes_on = self.skip_layout();
+        loop {
+            match goes_on {
+                Ok(()) => goes_on = self.step(),
+                Err(end) => return end,
+            }
+        }
+    }
+}
+
+/// Code, place, length, terminal, records and moves.
+fn parse(img: &[u16], text: &[u8], tree: &mut [u16], allowance: u32) -> [u64; 6] {
+    if text.len() > 65535 {
+        return [6, 0, 0, 0, 0, 0];
+    }
+    let p = match shape(img) {
+        Ok(p) => p,
+        Err(place) => return [4, place as u64, 0, 0, 0, 0],
+    };
+    let mut run = Run {
+        scanner: Scanner::new(img, p, allowance),
+        layout: set_at(img, 9),
+        text,
+        place: 0,
+        tree,
+        records: 0,
+        stack: [0; 512],
+        height: 1,
+    };
+    let End(code, length, terminal) = run.run();
+    [code, run.place as u64, length as u64, terminal as u64, run.records as u64, u64::from(run.scanner.moves)]
+}
+
 fn tell(out: &mut [u64], numbers: &[u64]) -> usize {
     if out.len() < numbers.len() {
         return 0;
@@ -583,4 +875,35 @@ pub unsafe extern "C" fn plain_rust_write(
     let buffer = std::slice::from_raw_parts_mut(buffer, buffer_bytes);
     let out = std::slice::from_raw_parts_mut(out, out_len);
     tell(out, &write(img, buffer))
+}
+
+/// # Safety
+/// Each pointer has as many elements behind it as its length says.
+#[no_mangle]
+pub unsafe extern "C" fn plain_rust_check(img: *const u16, img_words: usize, out: *mut u64, out_len: usize) -> usize {
+    let img = std::slice::from_raw_parts(img, img_words);
+    let out = std::slice::from_raw_parts_mut(out, out_len);
+    tell(out, &check(img))
+}
+
+/// # Safety
+/// Each pointer has as many elements behind it as its length says.
+#[no_mangle]
+#[allow(clippy::too_many_arguments)]
+pub unsafe extern "C" fn plain_rust_parse(
+    img: *const u16,
+    img_words: usize,
+    text: *const u8,
+    text_bytes: usize,
+    tree: *mut u16,
+    tree_words: usize,
+    allowance: u32,
+    out: *mut u64,
+    out_len: usize,
+) -> usize {
+    let img = std::slice::from_raw_parts(img, img_words);
+    let text = std::slice::from_raw_parts(text, text_bytes);
+    let tree = std::slice::from_raw_parts_mut(tree, tree_words);
+    let out = std::slice::from_raw_parts_mut(out, out_len);
+    tell(out, &parse(img, text, tree, allowance))
 }

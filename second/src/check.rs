@@ -43,25 +43,26 @@ pub fn check(image: &[u16]) -> Checked {
 
 /// The first condition that fails for a pack of good shape.
 pub fn failing(pack: &Pack) -> Option<Failing> {
-    let one = |condition: u32, place: Option<usize>| {
-        place.map(|first| Failing {
-            condition,
-            places: [first, 0],
-        })
-    };
-    let two = |condition: u32, places: Option<(usize, usize)>| {
+    conditions(pack, &Edges::new(pack)).next()
+}
+
+/// The conditions that fail for a pack of good shape, in order.
+pub fn conditions<'p>(pack: &'p Pack, edges: &'p Edges) -> impl Iterator<Item = Failing> + 'p {
+    let one = |place: Option<usize>| place.map(|first| (first, 0));
+    (1..=6).filter_map(move |condition| {
+        let places = match condition {
+            1 => one(k1(pack)),
+            2 => one(k2(pack)),
+            3 => k3(pack),
+            4 => one(k4(pack, edges)),
+            5 => k5(pack, edges),
+            _ => one(k6(pack, edges)),
+        };
         places.map(|(first, second)| Failing {
             condition,
             places: [first, second],
         })
-    };
-    let edges = Edges::new(pack);
-    one(1, k1(pack))
-        .or_else(|| one(2, k2(pack)))
-        .or_else(|| two(3, k3(pack)))
-        .or_else(|| one(4, k4(pack, &edges)))
-        .or_else(|| two(5, k5(pack, &edges)))
-        .or_else(|| one(6, k6(pack, &edges)))
+    })
 }
 
 /// K1: with M = acc ∪ rej, rej is exactly the t in M with dom(t) ∩ M nonempty.
@@ -103,13 +104,13 @@ fn k3(pack: &Pack) -> Option<(usize, usize)> {
 }
 
 /// Shifts and gotos, gathered by the state they lead to.
-struct Edges {
+pub struct Edges {
     /// For each state, the edges into it: the state each comes from and the symbol it carries.
-    into: Vec<Vec<(usize, usize)>>,
+    pub into: Vec<Vec<(usize, usize)>>,
 }
 
 impl Edges {
-    fn new(pack: &Pack) -> Edges {
+    pub fn new(pack: &Pack) -> Edges {
         let mut into = vec![Vec::new(); pack.sizes.states];
         for s in 0..pack.sizes.states {
             for t in 0..pack.sizes.terminals {
@@ -126,7 +127,7 @@ impl Edges {
         Edges { into }
     }
 
-    fn all_carry(&self, v: usize, symbol: usize) -> bool {
+    pub fn all_carry(&self, v: usize, symbol: usize) -> bool {
         self.into[v].iter().all(|&(_, carried)| carried == symbol)
     }
 }

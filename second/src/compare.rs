@@ -1,14 +1,22 @@
-//! Compares two engines over generated cases, case by case, on the entry points that both have.
+//! Compares two engines over generated cases, case by case.
+
+use std::collections::BTreeMap;
 
 use crate::cases::{answer, line, Case};
 use crate::engine::Engine;
 use crate::gen::mix::{Kinds, Mix};
+use crate::numbers::{QUERY_LONG, SHAPE};
 
 /// How a comparison went.
+#[derive(Default)]
 pub struct Comparison {
     pub cases: usize,
-    /// Cases whose entry point both engines have.
-    pub compared: usize,
+    /// Cases by the name of their kind.
+    pub kinds: BTreeMap<&'static str, usize>,
+    /// Checks of an image of good shape, so that its conditions are tested.
+    pub checks_past_shape: usize,
+    /// Parses that get to their run: neither the query nor the shape is refused.
+    pub parses_run: usize,
     pub difference: Option<Difference>,
 }
 
@@ -19,35 +27,60 @@ pub struct Difference {
     pub answers: [String; 2],
 }
 
-/// Compares over `cases` generated cases, and stops at the first difference.
-pub fn compare(one: &dyn Engine, other: &dyn Engine, cases: usize, seed: u64) -> Comparison {
-    let mut mix = Mix::new(seed, Kinds::ALL, false);
-    let mut comparison = Comparison {
-        cases: 0,
-        compared: 0,
-        difference: None,
-    };
+impl Comparison {
+    fn count(&mut self, case: &Case, code: u64) {
+        self.cases += 1;
+        *self.kinds.entry(case.name()).or_default() += 1;
+        let refused = code == SHAPE.into() || code == QUERY_LONG.into();
+        match case {
+            Case::Check { .. } if !refused => self.checks_past_shape += 1,
+            Case::Parse { .. } if !refused => self.parses_run += 1,
+            _ => (),
+        }
+    }
+}
+
+/// Compares over `cases` generated cases of the kinds wanted, and stops at the first difference.
+pub fn compare(one: &Engine, other: &Engine, kinds: Kinds, cases: usize, seed: u64) -> Comparison {
+    let mut mix = Mix::new(seed, kinds, false);
+    let mut comparison = Comparison::default();
     while comparison.cases < cases {
         for case in mix.bundle() {
             if comparison.cases == cases {
                 break;
             }
-            comparison.cases += 1;
-            let (Some(first), Some(second)) = (answer(one, &case), answer(other, &case)) else {
-                continue;
-            };
-            comparison.compared += 1;
-            if first != second {
+            let answers = [one, other].map(|engine| answer(engine, &case));
+            if answers[0] != answers[1] {
                 comparison.difference = Some(Difference {
-                    number: comparison.cases - 1,
+                    number: comparison.cases,
                     case,
-                    answers: [line(&first), line(&second)],
+                    answers: answers.map(|numbers| line(&numbers)),
                 });
                 return comparison;
             }
+            comparison.count(&case, answers[0][0]);
         }
     }
     comparison
+}
+
+/// The counts as lines.
+pub fn table(comparison: &Comparison) -> String {
+    let mut lines = format!("{:9}  cases\n", comparison.cases);
+    for (name, count) in &comparison.kinds {
+        lines.push_str(&format!("{count:9}  {name}\n"));
+    }
+    let reached = [
+        (
+            "checks of an image of good shape",
+            comparison.checks_past_shape,
+        ),
+        ("parses that get to their run", comparison.parses_run),
+    ];
+    for (what, count) in reached {
+        lines.push_str(&format!("{count:9}  {what}\n"));
+    }
+    lines
 }
 
 /// The difference in words, with all that is needed to see it again.
@@ -61,22 +94,22 @@ pub fn describe(difference: &Difference, names: [&str; 2]) -> String {
     for (name, answer) in names.iter().zip(answers) {
         lines.push_str(&format!("{name}: {answer}\n"));
     }
+    lines.push_str(&format!("kind: {}", case.name()));
     lines.push_str(&match case {
-        Case::Shape { .. } => "kind: shape\n".to_string(),
+        Case::Shape { .. } | Case::Check { .. } => String::new(),
         Case::Scan {
             start,
             set,
             allowance,
             ..
-        } => format!("kind: scan, start {start}, set {set:016x}, allowance {allowance}\n"),
-        Case::Read { room, .. } => format!("kind: read, room {room}\n"),
-        Case::Write { room, .. } => format!("kind: write, room {room}\n"),
-        Case::Check { .. } => "kind: check\n".to_string(),
+        } => format!(", start {start}, set {set:016x}, allowance {allowance}"),
+        Case::Read { room, .. } | Case::Write { room, .. } => format!(", room {room}"),
         Case::Parse {
             tree, allowance, ..
-        } => format!("kind: parse, tree {tree} words, allowance {allowance}\n"),
-        Case::Leaf { words, .. } => format!("kind: leaf, words {words:?}\n"),
+        } => format!(", tree {tree} words, allowance {allowance}"),
+        Case::Leaf { words, .. } => format!(", words {words:?}"),
     });
+    lines.push('\n');
     if let Some(image) = case.image() {
         let words: Vec<u64> = image.iter().map(|&word| word.into()).collect();
         lines.push_str(&format!("image: {}\n", line(&words)));

@@ -1,14 +1,4 @@
-//! Engines: programs that answer cases. An engine may lack entry points; it is compared on those that it has.
-//!
-//! To add the proved library, write `src/proved.rs` with
-//!
-//! ```text
-//! pub fn engine() -> Box<dyn crate::engine::Engine>
-//! ```
-//!
-//! over the library's C functions, and build with `--features proved`: `others` below then offers it by the name
-//! `proved`, and `second compare N SEED` compares with it. Nothing else has to change. (The file may hold the
-//! `#[link(name = ..)]` attribute; the folder of the library is given by `RUSTFLAGS="-L .."` or by a build script.)
+//! Engines: programs that answer cases.
 
 use crate::check::{self, Checked};
 use crate::leaf;
@@ -19,109 +9,40 @@ use crate::shape::{self, Shaped};
 use crate::text::{self, Written};
 use crate::wrong;
 
-/// The entry points, each with the numbers it gives; `None` where the engine has no such entry point. Lent buffers
-/// are left as the entry point leaves them.
-pub trait Engine {
-    fn name(&self) -> &str;
-
-    fn shape(&self, _image: &[u16]) -> Option<Shaped> {
-        None
-    }
-
-    fn scan(
-        &self,
-        _image: &[u16],
-        _text: &[u8],
-        _start: usize,
-        _set: Set,
-        _allowance: u32,
-    ) -> Option<Scanned> {
-        None
-    }
-
-    fn read(&self, _text: &[u8], _room: &mut [u16]) -> Option<Written> {
-        None
-    }
-
-    fn write(&self, _image: &[u16], _room: &mut [u8]) -> Option<Written> {
-        None
-    }
-
-    fn check(&self, _image: &[u16]) -> Option<Checked> {
-        None
-    }
-
-    fn parse(
-        &self,
-        _image: &[u16],
-        _text: &[u8],
-        _tree: &mut [u16],
-        _allowance: u32,
-    ) -> Option<Parsed> {
-        None
-    }
-
-    /// Start and length of the part of the text that comes back.
-    fn leaf(&self, _text: &[u8], _words: [u16; 4]) -> Option<(usize, usize)> {
-        None
-    }
+/// The entry points, each with the numbers it gives. Lent buffers are left as the entry point leaves them.
+#[derive(Clone, Copy)]
+pub struct Engine {
+    pub name: &'static str,
+    pub shape: fn(&[u16]) -> Shaped,
+    /// Image, text, start, set and allowance.
+    pub scan: fn(&[u16], &[u8], usize, Set, u32) -> Scanned,
+    /// Text, and room for the image.
+    pub read: fn(&[u8], &mut [u16]) -> Written,
+    /// Image, and room for the text.
+    pub write: fn(&[u16], &mut [u8]) -> Written,
+    pub check: fn(&[u16]) -> Checked,
+    /// Image, text, tree and allowance.
+    pub parse: fn(&[u16], &[u8], &mut [u16], u32) -> Parsed,
+    /// Text and record; gives start and length of the part of the text that comes back.
+    pub leaf: fn(&[u8], [u16; 4]) -> (usize, usize),
 }
 
 /// The second program itself.
-pub struct Second;
-
-impl Engine for Second {
-    fn name(&self) -> &str {
-        "second"
-    }
-
-    fn shape(&self, image: &[u16]) -> Option<Shaped> {
-        Some(shape::shape(image))
-    }
-
-    fn scan(
-        &self,
-        image: &[u16],
-        text: &[u8],
-        start: usize,
-        set: Set,
-        allowance: u32,
-    ) -> Option<Scanned> {
-        Some(scan::scan(image, text, start, set, allowance))
-    }
-
-    fn read(&self, text: &[u8], room: &mut [u16]) -> Option<Written> {
-        Some(text::read(text, room))
-    }
-
-    fn write(&self, image: &[u16], room: &mut [u8]) -> Option<Written> {
-        Some(text::write(image, room))
-    }
-
-    fn check(&self, image: &[u16]) -> Option<Checked> {
-        Some(check::check(image))
-    }
-
-    fn parse(
-        &self,
-        image: &[u16],
-        text: &[u8],
-        tree: &mut [u16],
-        allowance: u32,
-    ) -> Option<Parsed> {
-        Some(parse::parse(image, text, tree, allowance))
-    }
-
-    fn leaf(&self, text: &[u8], words: [u16; 4]) -> Option<(usize, usize)> {
-        Some(leaf::part(text, words))
-    }
-}
+pub const SECOND: Engine = Engine {
+    name: "second",
+    shape: shape::shape,
+    scan: scan::scan,
+    read: text::read,
+    write: text::write,
+    check: check::check,
+    parse: parse::parse,
+    leaf: leaf::part,
+};
 
 /// The engines that the second program can be compared with.
-pub fn others() -> Vec<Box<dyn Engine>> {
-    let mut engines: Vec<Box<dyn Engine>> = Vec::new();
+pub const OTHERS: &[Engine] = &[
     #[cfg(feature = "proved")]
-    engines.push(crate::proved::engine());
-    engines.extend(wrong::engines());
-    engines
-}
+    crate::proved::PROVED,
+    wrong::FILTERS_AFTERWARDS,
+    wrong::KEEPS_AFTER_REJECT,
+];

@@ -2,11 +2,11 @@
 
 use std::collections::BTreeMap;
 
-use crate::cases::{Case, CaseReader, MOST_TREE, MOST_WORDS};
-use crate::check::check;
+use crate::cases::{Case, CaseReader, MOST_WORDS};
+use crate::check::{self, check, Edges, Failing};
 use crate::gen::damage::TextBreak;
 use crate::gen::mix::{Kinds, Mix};
-use crate::image::{Action, Pack, SIZE_NAMES};
+use crate::image::{Action, Pack, FIRST_NONTERMINAL, SIZE_NAMES};
 use crate::leaf;
 use crate::numbers::*;
 use crate::parse::parse;
@@ -47,6 +47,29 @@ const UNEXPECTED_WAYS: [&str; 3] = [
     "parse code 8: at a token, several without a group",
 ];
 
+/// Where among its places a condition fails: a state is the first, neither, or the last.
+const SPOTS: [&str; 3] = ["at the first place", "in the middle", "at the last place"];
+
+/// What packs have to be checked beside the conditions that fail.
+const CHECKED: [&str; 3] = [
+    "check code 0: a state that nothing leads to",
+    "check code 5: two conditions fail",
+    "check code 5: K5 fails on one way back and holds on another",
+];
+
+/// What a parse has to meet beside its codes.
+const MET: [&str; 9] = [
+    "parse: 0 bytes",
+    "parse: 1 byte",
+    "parse: 65535 bytes",
+    "parse: at most 511 states",
+    "parse: at most 512 states",
+    "parse code 0: no record more would fit",
+    "parse code 0: no move more is allowed",
+    "parse code 11: one record short of code 0",
+    "parse code 13: one move short of code 0",
+];
+
 /// Everything that has to be hit.
 pub fn wanted() -> Vec<String> {
     let mut names: Vec<String> = Vec::new();
@@ -59,11 +82,15 @@ pub fn wanted() -> Vec<String> {
     names.extend(TextBreak::ALL.map(|how| format!("text break {how:?}")));
     names.extend([0, 2, 3, 4].map(|code| format!("write code {code}")));
     names.extend([0, 4, 5].map(|code| format!("check code {code}")));
-    names.extend((1..=6).map(|condition| format!("check code 5: K{condition}")));
+    for condition in 1..=6 {
+        names.extend(SPOTS.map(|spot| format!("check code 5: K{condition} {spot}")));
+    }
+    names.extend(CHECKED.map(str::to_string));
     names.extend([0, 4, 6, 7].map(|code| format!("parse code {code}")));
     names.extend(UNEXPECTED_WAYS.map(str::to_string));
     names.extend([9, 10, 11, 12, 13].map(|code| format!("parse code {code}")));
     names.extend(REFUSED_ACTIONS.map(str::to_string));
+    names.extend(MET.map(str::to_string));
     names.extend(
         ["a part", "an empty part inside", "the empty front part"]
             .map(|part| format!("leaf: {part}")),
@@ -132,10 +159,9 @@ impl Hits {
                 self.hit(format!("write code {code}"));
             }
             Case::Check { image } => {
-                let checked = check(image);
-                self.hit(format!("check code {}", checked.code));
-                if checked.code == CHECK {
-                    self.hit(format!("check code 5: K{}", checked.numbers[0]));
+                self.hit(format!("check code {}", check(image).code));
+                if let Ok(pack) = shape::pack(image) {
+                    self.count_conditions(&pack);
                 }
             }
             Case::Parse {
@@ -144,8 +170,8 @@ impl Hits {
                 tree,
                 allowance,
             } => {
-                let mut lent = [0; MOST_TREE];
-                let parsed = parse(image, text, &mut lent[..*tree as usize], *allowance);
+                let mut lent = vec![0; *tree as usize];
+                let parsed = parse(image, text, &mut lent, *allowance);
                 match parsed.code {
                     UNEXPECTED => {
                         let rest = &text[parsed.place as usize..];
@@ -153,10 +179,33 @@ impl Hits {
                     }
                     code => self.hit(format!("parse code {code}")),
                 }
+                if parsed.code == SHAPE || parsed.code == QUERY_LONG {
+                    return;
+                }
+                let records = &lent[..parsed.records as usize * RECORD_WORDS];
+                let stacks = Stacks::of(image, records);
                 if (STUCK..=STACK_FULL).contains(&parsed.code) {
-                    let records = &lent[..parsed.records as usize * RECORD_WORDS];
                     let rest = &text[parsed.place as usize..];
-                    self.hit(refused_action(image, rest, records, parsed.code));
+                    self.hit(refused_action(image, rest, &stacks.last, parsed.code));
+                }
+                let again = |records: usize, moves: u32| {
+                    let mut lent = vec![0; *tree as usize + records * RECORD_WORDS];
+                    parse(image, text, &mut lent, allowance.saturating_add(moves)).code
+                };
+                let room = *tree as usize / RECORD_WORDS;
+                let met = [
+                    text.is_empty(),
+                    text.len() == 1,
+                    text.len() == TEXT_LIMIT,
+                    stacks.highest == STACK_LIMIT - 1,
+                    stacks.highest == STACK_LIMIT,
+                    parsed.code == DONE && room == parsed.records as usize,
+                    parsed.code == DONE && *allowance == parsed.moves,
+                    parsed.code == TREE_FULL && again(1, 0) == DONE,
+                    parsed.code == ALLOWANCE && again(0, 1) == DONE,
+                ];
+                for (name, _) in MET.into_iter().zip(met).filter(|(_, met)| *met) {
+                    self.hit(name);
                 }
             }
             Case::Leaf { text, words } => {
@@ -169,6 +218,49 @@ impl Hits {
             }
         }
     }
+
+    fn count_conditions(&mut self, pack: &Pack) {
+        let edges = Edges::new(pack);
+        let failing: Vec<Failing> = check::conditions(pack, &edges).collect();
+        let Some(&Failing { condition, places }) = failing.first() else {
+            if (1..pack.sizes.states).any(|s| edges.into[s].is_empty()) {
+                self.hit(CHECKED[0]);
+            }
+            return;
+        };
+        let (first, count) = match condition {
+            // Scan state 0 accepts and rejects nothing.
+            1 => (1, pack.sizes.scan_states),
+            2 => (0, pack.sizes.scan_states),
+            _ => (0, pack.sizes.states),
+        };
+        let spot = match places[0] {
+            place if place == first => 0,
+            place if place + 1 < count => 1,
+            _ => 2,
+        };
+        self.hit(format!("check code 5: K{condition} {}", SPOTS[spot]));
+        if failing.len() > 1 {
+            self.hit(CHECKED[1]);
+        }
+        if condition == 5 && some_way_back(pack, &edges, places) {
+            self.hit(CHECKED[2]);
+        }
+    }
+}
+
+/// Is there a way back from state s by production p along which all is well?
+fn some_way_back(pack: &Pack, edges: &Edges, [s, p]: [usize; 2]) -> bool {
+    let mut reached = vec![s];
+    for &symbol in pack.symbols(p).iter().rev() {
+        let well = |v: &usize| *v != 0 && edges.all_carry(*v, usize::from(symbol));
+        let before = |v: usize| edges.into[v].iter().map(|&(from, _)| from);
+        reached = reached.into_iter().filter(well).flat_map(before).collect();
+        reached.sort_unstable();
+        reached.dedup();
+    }
+    let lhs = pack.lhs(p);
+    reached.into_iter().any(|v| pack.goto(v, lhs).is_some())
 }
 
 /// The way in which a terminal is unexpected: the second scan is made again.
@@ -182,23 +274,38 @@ fn unexpected(image: &[u16], rest: &[u8]) -> usize {
     }
 }
 
-/// Names the action that ended a parse with code 10, 11 or 12: the stack is built again from the records.
-fn refused_action(image: &[u16], rest: &[u8], records: &[u16], code: u32) -> String {
-    let pack = Pack::new(image);
-    let mut stack = vec![0];
-    for record in records.chunks_exact(RECORD_WORDS) {
-        let [first, _, len, state] = [record[0], record[1], record[2], record[3]].map(usize::from);
-        let next = if first < 64 {
-            match pack.action(state, first) {
-                Action::Shift(to) => Some(to),
-                _ => None,
-            }
-        } else {
-            stack.truncate(stack.len() - len);
-            pack.goto(state, first - 64)
-        };
-        stack.extend(next);
+/// The stacks of a parse, built again from its records: the last one, and how high the highest was.
+struct Stacks {
+    last: Vec<usize>,
+    highest: usize,
+}
+
+impl Stacks {
+    fn of(image: &[u16], records: &[u16]) -> Stacks {
+        let pack = Pack::new(image);
+        let (mut last, mut highest) = (vec![0], 1);
+        for record in records.chunks_exact(RECORD_WORDS) {
+            let [first, _, len, state] =
+                [record[0], record[1], record[2], record[3]].map(usize::from);
+            let next = if first < FIRST_NONTERMINAL {
+                match pack.action(state, first) {
+                    Action::Shift(to) => Some(to),
+                    _ => None,
+                }
+            } else {
+                last.truncate(last.len() - len);
+                pack.goto(state, first - FIRST_NONTERMINAL)
+            };
+            last.extend(next);
+            highest = highest.max(last.len());
+        }
+        Stacks { last, highest }
     }
+}
+
+/// Names the action that ended a parse with code 10, 11 or 12.
+fn refused_action(image: &[u16], rest: &[u8], stack: &[usize], code: u32) -> String {
+    let pack = Pack::new(image);
     let top = stack[stack.len() - 1];
     let valid = pack.valid_set(top) & !sets::single(0);
     let terminal = if rest.is_empty() {

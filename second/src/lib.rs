@@ -23,13 +23,5 @@ pub mod promise;
 pub mod store;
 pub mod wrong;
 
-/// A module whose file is there only where the feature is used. (A plain `mod` line would make the formatter ask
-/// for the file even without the feature.)
-macro_rules! module_of_feature {
-    ($feature:literal, $module:item) => {
-        #[cfg(feature = $feature)]
-        $module
-    };
-}
-
-module_of_feature!("proved", pub mod proved;);
+#[cfg(feature = "proved")]
+pub mod proved;

@@ -5,8 +5,9 @@ use std::io::{self, Read, Write};
 use std::process::ExitCode;
 
 use second::cases::answers;
-use second::compare::{compare, describe};
-use second::engine::{others, Engine, Second};
+use second::compare::{compare, describe, table};
+use second::engine::{OTHERS, SECOND};
+use second::gen::mix::Kinds;
 use second::hits;
 use second::promise;
 use second::readq::readq;
@@ -18,7 +19,7 @@ usage: second write-cases SEED scan|text|parse CASES_OUT ANSWERS_OUT
        second hits N SEED
        second promise N SEED
        second readq PACKTEXT_FILE
-       second compare N SEED [ENGINE]";
+       second compare N SEED [all|scan|text|check|parse [ENGINE]]";
 
 fn number(word: &str) -> Result<u64, String> {
     word.parse().map_err(|_| format!("{word} is no number"))
@@ -43,7 +44,7 @@ fn write_cases(seed: u64, kind: &str, cases: &str, answers: &str) -> Result<(), 
 
 fn answer_file(cases: &str, answers_out: &str) -> Result<(), String> {
     let bytes = fs::read(cases).map_err(|wrong| format!("{cases}: {wrong}"))?;
-    let lines = answers(&Second, &bytes)?;
+    let lines = answers(&SECOND, &bytes)?;
     put(answers_out, lines.as_bytes())?;
     println!("{} cases", lines.lines().count());
     Ok(())
@@ -79,22 +80,19 @@ fn show_readq(name: Option<&str>) -> Result<(), String> {
     io::stdout().write_all(lines.as_bytes()).map_err(wrong)
 }
 
-fn show_compare(cases: usize, seed: u64, name: &str) -> Result<(), String> {
-    let engines = others();
-    let names: Vec<&str> = engines.iter().map(|engine| engine.name()).collect();
-    let found = engines.iter().find(|engine| engine.name() == name);
-    let other = found.ok_or_else(|| {
+fn show_compare(cases: usize, seed: u64, kinds: &str, name: &str) -> Result<(), String> {
+    let wanted = Kinds::by_name(kinds).ok_or_else(|| format!("{kinds} is no kind of cases"))?;
+    let other = OTHERS.iter().find(|engine| engine.name == name);
+    let other = other.ok_or_else(|| {
+        let names: Vec<&str> = OTHERS.iter().map(|engine| engine.name).collect();
         let names = names.join(", ");
         format!("there is no engine {name} in this build; there are: {names}")
     })?;
-    let comparison = compare(&Second, other.as_ref(), cases, seed);
-    println!(
-        "{} cases, {} compared with {name}",
-        comparison.cases, comparison.compared
-    );
+    let comparison = compare(&SECOND, other, wanted, cases, seed);
+    println!("second and {name} give the same in");
+    print!("{}", table(&comparison));
     match &comparison.difference {
-        Some(difference) => Err(describe(difference, [Second.name(), name])),
-        None if comparison.compared == 0 => Err("nothing was compared".to_string()),
+        Some(difference) => Err(describe(difference, [SECOND.name, name])),
         None => Ok(()),
     }
 }
@@ -108,8 +106,11 @@ fn run(words: &[&str]) -> Result<(), String> {
         ["hits", cases, seed] => show_hits(count(cases)?, number(seed)?),
         ["promise", parses, seed] => show_promise(count(parses)?, number(seed)?),
         ["readq", ref names @ ..] => show_readq(names.first().copied()),
-        ["compare", cases, seed] => show_compare(count(cases)?, number(seed)?, "proved"),
-        ["compare", cases, seed, name] => show_compare(count(cases)?, number(seed)?, name),
+        ["compare", cases, seed, ref rest @ ..] if rest.len() <= 2 => {
+            let kinds = rest.first().unwrap_or(&"all");
+            let name = rest.get(1).unwrap_or(&"proved");
+            show_compare(count(cases)?, number(seed)?, kinds, name)
+        }
         _ => Err(USAGE.to_string()),
     }
 }

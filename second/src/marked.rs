@@ -207,6 +207,56 @@ scan=0000000000000000,0000000000000000,0000000000000002
 scan=0000000000000002,0000000000000000,0000000000000002
 ";
 
+/// S is `a S` or `a`: the stack becomes one state higher than the text is long. It passes.
+pub const NESTED_PACK: &str = "\
+pack=1
+size=2,1,2,4,2,2,1,0
+layout=0000000000000000
+dom=0000000000000000
+dom=0000000000000000
+prod=0,2,1,64
+prod=0,1,1
+act=0,4
+act=5,4
+act=3,0
+act=1,0
+goto=4
+goto=3
+goto=0
+goto=0
+class=97,97,1
+move=0,2
+move=0,0
+scan=0000000000000000,0000000000000000,0000000000000002
+scan=0000000000000002,0000000000000000,0000000000000002
+";
+
+/// What makes of it: S is `a S` or nothing. The stack becomes two states higher than the text is long.
+pub const NESTED_EMPTY: [(&str, usize, &str); 2] =
+    [("prod=", 1, "prod=0,0"), ("act=", 0, "act=5,4")];
+
+/// `a` is S, and S is S for ever: a node for each record of the room. It passes.
+pub const ENDLESS_PACK: &str = "\
+pack=1
+size=2,1,2,3,2,2,1,0
+layout=0000000000000000
+dom=0000000000000000
+dom=0000000000000000
+prod=0,1,1
+prod=0,1,64
+act=0,4
+act=3,0
+act=5,0
+goto=3
+goto=0
+goto=0
+class=97,97,1
+move=0,2
+move=0,0
+scan=0000000000000000,0000000000000000,0000000000000002
+scan=0000000000000002,0000000000000000,0000000000000002
+";
+
 /// The image of one of the texts above, with some of its lines replaced.
 pub fn image_with(text: &str, replaced: &[(&str, usize, &str)]) -> Vec<u16> {
     let mut lines: Vec<&str> = text.lines().collect();

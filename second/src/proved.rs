@@ -1,12 +1,15 @@
 //! The proved library as an engine, over the C functions that `include/zhgarelli.h` declares.
 //!
-//! Each call asserts more than its numbers: the function answers how many numbers it gives, and leaves the rest of `out` as it was.
+//! Each call asserts more than its numbers: the function answers how many numbers it gives and leaves the rest of `out` as it was; and in
+//! a call of its own, where `out` is one number too short, it answers 0 and leaves all of it.
 
+use crate::check::Checked;
 use crate::engine::Engine;
+use crate::numbers::RECORD_WORDS;
+use crate::parse::Parsed;
 use crate::scan::Scanned;
 use crate::sets::Set;
 use crate::shape::Shaped;
-#[cfg(any(zhg_read, zhg_write))]
 use crate::text::Written;
 
 extern "C" {
@@ -24,7 +27,6 @@ extern "C" {
         out_len: usize,
     ) -> usize;
 
-    #[cfg(zhg_read)]
     fn zhg_read(
         text: *const u8,
         text_bytes: usize,
@@ -34,12 +36,34 @@ extern "C" {
         out_len: usize,
     ) -> usize;
 
-    #[cfg(zhg_write)]
     fn zhg_write(
         img: *const u16,
         img_words: usize,
         buffer: *mut u8,
         buffer_bytes: usize,
+        out: *mut u64,
+        out_len: usize,
+    ) -> usize;
+
+    fn zhg_check(img: *const u16, img_words: usize, out: *mut u64, out_len: usize) -> usize;
+
+    fn zhg_parse(
+        img: *const u16,
+        img_words: usize,
+        text: *const u8,
+        text_bytes: usize,
+        tree: *mut u16,
+        tree_words: usize,
+        allowance: u32,
+        out: *mut u64,
+        out_len: usize,
+    ) -> usize;
+
+    fn zhg_leaf(
+        text: *const u8,
+        text_bytes: usize,
+        record: *const u16,
+        record_words: usize,
         out: *mut u64,
         out_len: usize,
     ) -> usize;
@@ -53,93 +77,130 @@ const ROOM: usize = 8;
 /// The numbers of one call.
 fn numbers<const N: usize>(call: impl Fn(*mut u64, usize) -> usize) -> [u64; N] {
     let mut out = [BEFORE; ROOM];
-    let told = call(out.as_mut_ptr(), ROOM);
-    assert_eq!(told, N, "how many numbers are given");
+    assert_eq!(call(out.as_mut_ptr(), N - 1), 0, "out is too short");
+    assert_eq!(out, [BEFORE; ROOM], "an out that is too short is left");
+    assert_eq!(call(out.as_mut_ptr(), ROOM), N, "how many numbers");
     let (front, rest) = out.split_at(N);
-    assert!(
-        rest.iter().all(|&number| number == BEFORE),
-        "the rest of out is left as it was"
-    );
+    assert!(rest.iter().all(|&n| n == BEFORE), "the rest of out is left");
     front.try_into().expect("the front has N numbers")
 }
 
-/// A number that document 01 keeps below 2 to the 32nd.
-fn small(number: u64) -> u32 {
-    number.try_into().expect("the number has 32 bits")
+/// The same, each of them below 2 to the 32nd.
+fn small<const N: usize>(call: impl Fn(*mut u64, usize) -> usize) -> [u32; N] {
+    numbers(call).map(|number: u64| number.try_into().expect("the number has 32 bits"))
 }
 
-struct Proved;
-
 // Safety, in each call: a pointer comes with the length of its slice, and `out` with its room.
-impl Engine for Proved {
-    fn name(&self) -> &str {
-        "proved"
-    }
 
-    fn shape(&self, image: &[u16]) -> Option<Shaped> {
-        let [code, place] =
-            numbers(|out, room| unsafe { zhg_shape(image.as_ptr(), image.len(), out, room) });
-        Some(Shaped {
-            code: small(code),
-            place: small(place),
-        })
-    }
+fn shape(image: &[u16]) -> Shaped {
+    let [code, place] =
+        small(|out, room| unsafe { zhg_shape(image.as_ptr(), image.len(), out, room) });
+    Shaped { code, place }
+}
 
-    fn scan(
-        &self,
-        image: &[u16],
-        text: &[u8],
-        start: usize,
-        set: Set,
-        allowance: u32,
-    ) -> Option<Scanned> {
-        let [code, place, set, length, moves] = numbers(|out, room| unsafe {
-            zhg_scan(
-                image.as_ptr(),
-                image.len(),
+fn scan(image: &[u16], text: &[u8], start: usize, set: Set, allowance: u32) -> Scanned {
+    let (img, words, bytes) = (image.as_ptr(), image.len(), text.len());
+    let [code, place, set, length, moves] = numbers(|out, room| unsafe {
+        zhg_scan(
+            img,
+            words,
+            text.as_ptr(),
+            bytes,
+            start,
+            set,
+            allowance,
+            out,
+            room,
+        )
+    });
+    let [code, place, length, moves] =
+        [code, place, length, moves].map(|n| n.try_into().expect("the number has 32 bits"));
+    Scanned {
+        code,
+        place,
+        set,
+        length,
+        moves,
+    }
+}
+
+fn read(text: &[u8], room: &mut [u16]) -> Written {
+    let (lent, words) = (room.as_mut_ptr(), room.len());
+    let [code, number] =
+        small(|out, room| unsafe { zhg_read(text.as_ptr(), text.len(), lent, words, out, room) });
+    Written { code, number }
+}
+
+fn write(image: &[u16], room: &mut [u8]) -> Written {
+    let (lent, bytes) = (room.as_mut_ptr(), room.len());
+    let [code, number] = small(|out, room| unsafe {
+        zhg_write(image.as_ptr(), image.len(), lent, bytes, out, room)
+    });
+    Written { code, number }
+}
+
+fn check(image: &[u16]) -> Checked {
+    let [code, numbers @ ..]: [u32; 4] =
+        small(|out, room| unsafe { zhg_check(image.as_ptr(), image.len(), out, room) });
+    Checked { code, numbers }
+}
+
+fn parse(image: &[u16], text: &[u8], tree: &mut [u16], allowance: u32) -> Parsed {
+    let (img, img_words, bytes) = (image.as_ptr(), image.len(), text.len());
+    let (lent, words) = (tree.as_mut_ptr(), tree.len());
+    let [code, place, length, terminal, records, moves] = small(|out, room| unsafe {
+        zhg_parse(
+            img,
+            img_words,
+            text.as_ptr(),
+            bytes,
+            lent,
+            words,
+            allowance,
+            out,
+            room,
+        )
+    });
+    Parsed {
+        code,
+        place,
+        length,
+        terminal,
+        records,
+        moves,
+    }
+}
+
+/// A row of fewer words than a record is a bad record, and of more words the first four count.
+fn leaf(text: &[u8], words: [u16; RECORD_WORDS]) -> (usize, usize) {
+    let part = |record: &[u16]| -> [u32; 2] {
+        small(|out, room| unsafe {
+            zhg_leaf(
                 text.as_ptr(),
                 text.len(),
-                start,
-                set,
-                allowance,
+                record.as_ptr(),
+                record.len(),
                 out,
                 room,
             )
-        });
-        Some(Scanned {
-            code: small(code),
-            place: small(place),
-            set,
-            length: small(length),
-            moves: small(moves),
         })
+    };
+    let [start, length] = part(&words);
+    for few in 0..RECORD_WORDS {
+        assert_eq!(part(&words[..few]), [0, 0], "a row of {few} words");
     }
-
-    #[cfg(zhg_read)]
-    fn read(&self, text: &[u8], room: &mut [u16]) -> Option<Written> {
-        let (lent, words) = (room.as_mut_ptr(), room.len());
-        let [code, number] = numbers(|out, out_room| unsafe {
-            zhg_read(text.as_ptr(), text.len(), lent, words, out, out_room)
-        });
-        Some(Written {
-            code: small(code),
-            number: small(number),
-        })
-    }
-
-    #[cfg(zhg_write)]
-    fn write(&self, image: &[u16], room: &mut [u8]) -> Option<Written> {
-        let (lent, bytes) = (room.as_mut_ptr(), room.len());
-        let [code, number] = numbers(|out, out_room| unsafe {
-            zhg_write(image.as_ptr(), image.len(), lent, bytes, out, out_room)
-        });
-        Some(Written {
-            code: small(code),
-            number: small(number),
-        })
-    }
+    let [a, b, c, d] = words;
+    assert_eq!(part(&[a, b, c, d, a]), [start, length], "a word more");
+    (start as usize, length as usize)
 }
 
-pub fn engine() -> Box<dyn Engine> {
-    Box::new(Proved)
-}
+pub const PROVED: Engine = Engine {
+    name: "proved",
+    shape,
+    scan,
+    read,
+    write,
+    check,
+    parse,
+    leaf,
+};

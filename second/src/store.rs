@@ -4,7 +4,7 @@
 use std::rc::Rc;
 
 use crate::cases::{answers, Case, CaseWriter, Image, Text};
-use crate::engine::Second;
+use crate::engine::SECOND;
 use crate::gen::mix::{Kinds, Mix};
 use crate::gen::wide::with_text_length;
 use crate::image::Pack;
@@ -40,10 +40,13 @@ impl File {
 
 /// A case file and its answers.
 pub fn store(file: File, seed: u64) -> Result<(Vec<u8>, String), String> {
-    let kinds = Kinds {
-        scan: file == File::Scan,
-        text: file == File::Text,
-        parse: file == File::Parse,
+    let kinds = match file {
+        File::Scan => Kinds::SCAN,
+        File::Text => Kinds::TEXT,
+        File::Parse => Kinds {
+            check: true,
+            ..Kinds::PARSE
+        },
     };
     let mut mix = Mix::new(seed, kinds, true);
     let mut writer = CaseWriter::new();
@@ -56,7 +59,7 @@ pub fn store(file: File, seed: u64) -> Result<(Vec<u8>, String), String> {
     while writer.bytes.len() < FILE_BYTES {
         mix.bundle().iter().for_each(|case| writer.put(case));
     }
-    let lines = answers(&Second, &writer.bytes)?;
+    let lines = answers(&SECOND, &writer.bytes)?;
     Ok((writer.bytes, lines))
 }
 
@@ -226,6 +229,91 @@ fn text_cases(mix: &mut Mix) -> Vec<Case> {
     cases
 }
 
+/// Lines that replace some of a pack's, each by its name and its number among those of that name.
+type Replaced = &'static [(&'static str, usize, &'static str)];
+
+/// The small pack with each condition failing at its first place, in the middle and at its last, and with two failing.
+const FAILING: [Replaced; 23] = [
+    // K1: rejected though nothing outranks it; outranked and not rejected.
+    &[(
+        "scan=",
+        1,
+        "scan=0000000000000000,0000000000000004,0000000000000006",
+    )],
+    &[(
+        "scan=",
+        2,
+        "scan=0000000000000006,0000000000000000,0000000000000006",
+    )],
+    &[(
+        "scan=",
+        4,
+        "scan=0000000000000000,0000000000000008,0000000000000008",
+    )],
+    // K2: the possible set lacks what is moved to, or what matches.
+    &[(
+        "scan=",
+        0,
+        "scan=0000000000000000,0000000000000000,0000000000000006",
+    )],
+    &[(
+        "scan=",
+        3,
+        "scan=0000000000000004,0000000000000000,0000000000000000",
+    )],
+    &[(
+        "scan=",
+        4,
+        "scan=0000000000000008,0000000000000000,0000000000000000",
+    )],
+    // K3: `by` is a name too, and a row sees both.
+    &[BY_IS_A_NAME[0], BY_IS_A_NAME[1], ("act=", 0, "act=0,4,4,0")],
+    &[BY_IS_A_NAME[0], BY_IS_A_NAME[1], ("act=", 2, "act=0,8,8,0")],
+    &[BY_IS_A_NAME[0], BY_IS_A_NAME[1], ("act=", 4, "act=1,4,4,0")],
+    // K4: an edge into state 0, by a shift and by a goto; two symbols into one state.
+    &[("act=", 2, "act=0,0,2,0")],
+    &[("goto=", 3, "goto=1")],
+    &[("act=", 2, "act=0,4,8,0")],
+    &[("act=", 2, "act=0,10,8,0")],
+    // K5: a reduction in state 0, an end without goto, another symbol on the way.
+    &[("act=", 0, "act=3,0,4,0")],
+    &[("goto=", 0, "goto=0")],
+    &[("act=", 4, "act=3,0,0,0")],
+    // K6: an accept in state 0, in one behind a shift, and one with another edge in.
+    &[("act=", 0, "act=1,0,4,0")],
+    &[("act=", 1, "act=1,6,0,0")],
+    &[("goto=", 1, "goto=5")],
+    // Two at once: the lesser condition is given, and of one condition the lesser place.
+    &[
+        ("goto=", 0, "goto=0"),
+        (
+            "scan=",
+            4,
+            "scan=0000000000000008,0000000000000000,0000000000000000",
+        ),
+    ],
+    &[("act=", 0, "act=1,0,4,0"), ("act=", 2, "act=0,0,2,0")],
+    &[("act=", 0, "act=1,0,4,0"), ("act=", 4, "act=3,0,0,0")],
+    &[("goto=", 0, "goto=0"), ("act=", 0, "act=3,0,4,0")],
+];
+
+/// Without outranking, scan state 2 accepts `by` and the name.
+const BY_IS_A_NAME: [(&str, usize, &str); 2] = [
+    ("dom=", 2, "dom=0000000000000000"),
+    (
+        "scan=",
+        2,
+        "scan=0000000000000006,0000000000000000,0000000000000006",
+    ),
+];
+
+/// The nested pack with a goto missing on one of two ways back, on the other, and on both.
+const WAYS_BACK: [Replaced; 3] = [
+    &[("goto=", 0, "goto=0")],
+    &[("goto=", 1, "goto=0")],
+    &[("goto=", 0, "goto=0"), ("goto=", 1, "goto=0")],
+];
+
 fn parse_cases(mix: &mut Mix) -> Vec<Case> {
     let mut cases = Vec::new();
     for marked in marked_parses() {
@@ -241,6 +329,15 @@ fn parse_cases(mix: &mut Mix) -> Vec<Case> {
             image: Rc::new(image),
         });
     }
+    let failing = FAILING
+        .iter()
+        .map(|replaced| image_with(SMALL_PACK, replaced));
+    let ways = WAYS_BACK
+        .iter()
+        .map(|replaced| image_with(NESTED_PACK, replaced));
+    cases.extend(failing.chain(ways).map(|image| Case::Check {
+        image: Rc::new(image),
+    }));
     let small: Image = Rc::new(small_image());
     let (query, _, records) = TAX_BY_DAY;
     let day = text(query.as_bytes());
@@ -354,6 +451,21 @@ fn parse_cases(mix: &mut Mix) -> Vec<Case> {
                     allowance: u32::MAX,
                 });
             }
+        }
+    }
+    // The same by tables that accept, so that the stack falls again.
+    for replaced in [&[][..], &NESTED_EMPTY] {
+        let image: Image = Rc::new(image_with(NESTED_PACK, replaced));
+        cases.push(Case::Check {
+            image: image.clone(),
+        });
+        for length in 509..513 {
+            cases.push(Case::Parse {
+                image: image.clone(),
+                text: Rc::new(vec![b'a'; length]),
+                tree: 4_200,
+                allowance: u32::MAX,
+            });
         }
     }
     // Queries of 65,535 and 65,536 bytes.

@@ -1,6 +1,6 @@
 //! Engines that are wrong on purpose ("Errors that look right" in document 01), to see that a comparison finds them.
 
-use crate::engine::Engine;
+use crate::engine::{Engine, SECOND};
 use crate::image::Pack;
 use crate::numbers::{ALLOWANCE, DONE, TEXT_LIMIT};
 use crate::scan::Scanned;
@@ -8,65 +8,27 @@ use crate::sets::{self, Set};
 use crate::shape;
 
 /// Longest match over all terminals, filtered by the valid set afterwards.
-pub struct FiltersAfterwards;
+pub const FILTERS_AFTERWARDS: Engine = Engine {
+    name: "filters-afterwards",
+    scan: |image, text, start, set, allowance| {
+        wrong_scan(image, text, start, set, allowance, |pack, valid| {
+            let all = sets::below(pack.sizes.terminals) & !sets::single(0);
+            (all, valid, true)
+        })
+    },
+    ..SECOND
+};
 
 /// Keeps the shorter match after a reject.
-pub struct KeepsAfterReject;
-
-pub fn engines() -> Vec<Box<dyn Engine>> {
-    vec![Box::new(FiltersAfterwards), Box::new(KeepsAfterReject)]
-}
-
-impl Engine for FiltersAfterwards {
-    fn name(&self) -> &str {
-        "filters-afterwards"
-    }
-
-    fn scan(
-        &self,
-        image: &[u16],
-        text: &[u8],
-        start: usize,
-        set: Set,
-        allowance: u32,
-    ) -> Option<Scanned> {
-        Some(wrong_scan(
-            image,
-            text,
-            start,
-            set,
-            allowance,
-            |pack, valid| {
-                let all = sets::below(pack.sizes.terminals) & !sets::single(0);
-                (all, valid, true)
-            },
-        ))
-    }
-}
-
-impl Engine for KeepsAfterReject {
-    fn name(&self) -> &str {
-        "keeps-after-reject"
-    }
-
-    fn scan(
-        &self,
-        image: &[u16],
-        text: &[u8],
-        start: usize,
-        set: Set,
-        allowance: u32,
-    ) -> Option<Scanned> {
-        Some(wrong_scan(
-            image,
-            text,
-            start,
-            set,
-            allowance,
-            |_, valid| (valid, valid, false),
-        ))
-    }
-}
+pub const KEEPS_AFTER_REJECT: Engine = Engine {
+    name: "keeps-after-reject",
+    scan: |image, text, start, set, allowance| {
+        wrong_scan(image, text, start, set, allowance, |_, valid| {
+            (valid, valid, false)
+        })
+    },
+    ..SECOND
+};
 
 /// A scan like the true one, but for: the set scanned with, the set that filters the match at the end, and whether a
 /// reject forgets.

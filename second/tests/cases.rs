@@ -3,7 +3,7 @@
 use std::rc::Rc;
 
 use second::cases::*;
-use second::engine::Second;
+use second::engine::SECOND;
 use second::gen::mix::{Kinds, Mix};
 use second::hits;
 use second::marked::small_image;
@@ -78,7 +78,7 @@ fn the_stored_files_are_small_and_deterministic_and_cover_everything() {
         assert!((300_000..450_000).contains(&bytes.len()), "{}", bytes.len());
         total += bytes.len() + lines.len();
         // Answered again from the file alone.
-        assert!(answers(&Second, &bytes).unwrap() == lines);
+        assert!(answers(&SECOND, &bytes).unwrap() == lines);
         for (name, count) in hits::of_file(&bytes).unwrap() {
             *counts.entry(name).or_insert(0) += count;
         }
@@ -110,18 +110,18 @@ fn what_is_no_case_file_is_refused() {
         image: Rc::new(small_image()),
     });
     let file = writer.bytes;
-    assert_eq!(answers(&Second, &file), Ok("0,0,0,0\n".to_string()));
-    assert_eq!(answers(&Second, &[]), Ok(String::new()));
+    assert_eq!(answers(&SECOND, &file), Ok("0,0,0,0\n".to_string()));
+    assert_eq!(answers(&SECOND, &[]), Ok(String::new()));
     for length in 1..file.len() {
         assert!(
-            answers(&Second, &file[..length]).is_err(),
+            answers(&SECOND, &file[..length]).is_err(),
             "cut at {length}"
         );
     }
     let with = |place: usize, number: u32| {
         let mut file = file.clone();
         file[4 * place..4 * place + 4].copy_from_slice(&number.to_le_bytes());
-        answers(&Second, &file)
+        answers(&SECOND, &file)
     };
     assert!(with(0, 0).is_err());
     assert!(with(0, 8).is_err());

@@ -1,98 +1,113 @@
 //! A comparison finds engines that are wrong, and is content with one that is right.
 
+use second::check::{check, Checked};
 use second::compare::{compare, describe};
-use second::engine::{Engine, Second};
-use second::parse::{parse, Parsed};
-use second::text::{read, Written};
-use second::wrong::{FiltersAfterwards, KeepsAfterReject};
+use second::engine::{Engine, SECOND};
+use second::gen::mix::Kinds;
+use second::leaf;
+use second::parse::parse;
+use second::text::read;
+use second::wrong::{FILTERS_AFTERWARDS, KEEPS_AFTER_REJECT};
 
 #[test]
 fn the_second_program_agrees_with_itself() {
-    let comparison = compare(&Second, &Second, 3_000, 1);
-    assert_eq!((comparison.cases, comparison.compared), (3_000, 3_000));
+    let comparison = compare(&SECOND, &SECOND, Kinds::ALL, 3_000, 1);
+    assert_eq!(comparison.cases, 3_000);
+    assert_eq!(comparison.kinds.values().sum::<usize>(), 3_000);
+    assert_eq!(comparison.kinds.len(), 7);
     assert!(comparison.difference.is_none());
+    // Where only the check or the parse is wanted, nearly all cases get past what is refused before.
+    let checks = compare(&SECOND, &SECOND, Kinds::CHECK, 3_000, 1);
+    assert!(
+        checks.checks_past_shape > 2_500,
+        "{}",
+        checks.checks_past_shape
+    );
+    let parses = compare(&SECOND, &SECOND, Kinds::PARSE, 3_000, 1);
+    assert!(parses.parses_run > 2_300, "{}", parses.parses_run);
 }
 
-fn finds(wrong: &dyn Engine) -> (usize, String) {
-    let comparison = compare(&Second, wrong, 10_000, 1);
+/// The name of the kind in which a wrong engine is found, and the difference in words.
+fn finds(wrong: &Engine) -> (&'static str, String) {
+    let comparison = compare(&SECOND, wrong, Kinds::ALL, 20_000, 1);
     let difference = comparison.difference.expect("a difference");
-    let words = describe(&difference, ["second", wrong.name()]);
-    (difference.case.kind() as usize, words)
+    let words = describe(&difference, ["second", wrong.name]);
+    (difference.case.name(), words)
 }
 
 #[test]
 fn longest_match_filtered_afterwards_is_found() {
-    let (kind, words) = finds(&FiltersAfterwards);
-    assert_eq!(kind, 2);
+    let (kind, words) = finds(&FILTERS_AFTERWARDS);
+    assert_eq!(kind, "scan");
     assert!(words.contains("filters-afterwards: 0,"), "{words}");
 }
 
 #[test]
 fn a_match_kept_after_the_reject_is_found() {
-    let (kind, words) = finds(&KeepsAfterReject);
-    assert_eq!(kind, 2);
-    assert!(words.contains("kind: scan"), "{words}");
+    let (kind, words) = finds(&KEEPS_AFTER_REJECT);
+    assert_eq!(kind, "scan");
+    assert!(words.contains("kind: scan, start"), "{words}");
     assert!(words.contains("text: \""), "{words}");
 }
 
-/// A parse that leaves one word too many behind the records.
-struct WritesBehindRecords;
+#[test]
+fn lent_memory_is_compared() {
+    let writes_behind_the_records = Engine {
+        parse: |image, text, tree, allowance| {
+            let parsed = parse(image, text, tree, allowance);
+            if let Some(word) = tree.get_mut(4 * parsed.records as usize) {
+                *word = word.wrapping_add(1);
+            }
+            parsed
+        },
+        ..SECOND
+    };
+    assert_eq!(finds(&writes_behind_the_records).0, "parse");
+}
 
-impl Engine for WritesBehindRecords {
-    fn name(&self) -> &str {
-        "writes behind the records"
-    }
+#[test]
+fn a_text_without_its_last_lf_is_compared() {
+    let takes_no_last_lf = Engine {
+        read: |text, room| match text.last() {
+            Some(b'\n') | None => read(text, room),
+            _ => read(&[text, b"\n"].concat(), room),
+        },
+        ..SECOND
+    };
+    assert_eq!(finds(&takes_no_last_lf).0, "read");
+}
 
-    fn parse(
-        &self,
-        image: &[u16],
-        text: &[u8],
-        tree: &mut [u16],
-        allowance: u32,
-    ) -> Option<Parsed> {
-        let parsed = parse(image, text, tree, allowance);
-        if let Some(word) = tree.get_mut(4 * parsed.records as usize) {
-            *word = word.wrapping_add(1);
-        }
-        Some(parsed)
+#[test]
+fn a_check_that_passes_what_it_should_not_is_found() {
+    // One engine for each condition that it does not know.
+    let forgets: [fn(&[u16]) -> Checked; 6] = [
+        |image| without(image, 1),
+        |image| without(image, 2),
+        |image| without(image, 3),
+        |image| without(image, 4),
+        |image| without(image, 5),
+        |image| without(image, 6),
+    ];
+    for check in forgets {
+        assert_eq!(finds(&Engine { check, ..SECOND }).0, "check");
     }
 }
 
-/// A reader that takes a text without its last LF.
-struct TakesNoLastLf;
-
-impl Engine for TakesNoLastLf {
-    fn name(&self) -> &str {
-        "takes a text without its last LF"
-    }
-
-    fn read(&self, text: &[u8], room: &mut [u16]) -> Option<Written> {
-        match text.last() {
-            Some(b'\n') | None => Some(read(text, room)),
-            _ => Some(read(&[text, b"\n"].concat(), room)),
-        }
+fn without(image: &[u16], condition: u32) -> Checked {
+    match check(image) {
+        Checked { code: 5, numbers } if numbers[0] == condition => Checked::default(),
+        checked => checked,
     }
 }
 
 #[test]
-fn lent_memory_and_the_last_lf_are_compared() {
-    assert_eq!(finds(&WritesBehindRecords).0, 6);
-    assert_eq!(finds(&TakesNoLastLf).0, 3);
-}
-
-/// An engine without entry points.
-struct Nothing;
-
-impl Engine for Nothing {
-    fn name(&self) -> &str {
-        "nothing"
-    }
-}
-
-#[test]
-fn an_engine_is_compared_on_the_entry_points_that_it_has() {
-    let comparison = compare(&Second, &Nothing, 500, 1);
-    assert_eq!((comparison.cases, comparison.compared), (500, 0));
-    let comparison = compare(&Second, &TakesNoLastLf, 500, 9);
-    assert!(comparison.compared < comparison.cases);
+fn a_leaf_is_compared_to_its_start() {
+    let gives_the_empty_part_at_the_front = Engine {
+        leaf: |text, words| match leaf::part(text, words) {
+            (_, 0) => (0, 0),
+            part => part,
+        },
+        ..SECOND
+    };
+    assert_eq!(finds(&gives_the_empty_part_at_the_front).0, "leaf");
 }

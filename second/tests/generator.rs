@@ -1,6 +1,7 @@
 //! The generator: what each source promises, and that a run of 10,000 cases hits everything.
 
 use second::check::check;
+use second::gen::conditions;
 use second::gen::damage::{self, TextBreak};
 use second::gen::grammar::Grammar;
 use second::gen::lr::{self, Method};
@@ -60,6 +61,42 @@ fn random_tables_and_changes_keep_the_shape() {
         let looping = random::looping(&mut rng);
         assert_eq!(shape(&looping.image()).code, 0);
     }
+}
+
+#[test]
+fn each_condition_is_made_to_fail_and_the_shape_stays_good() {
+    let mut rng = Rng::new(8);
+    let mut drops = Drops::default();
+    for condition in 1..=6 {
+        let mut failing = 0;
+        for _ in 0..200 {
+            let mut tables = passing(&mut rng, Scale::Small, &mut drops).tables;
+            let changed = conditions::fail(&mut rng, &mut tables, condition);
+            let checked = check(&tables.image());
+            assert_ne!(checked.code, 4);
+            if changed.is_some() && checked.code == 5 {
+                failing += usize::from(checked.numbers[0] == condition as u32);
+            }
+        }
+        assert!(failing > 40, "K{condition}: {failing}");
+    }
+}
+
+#[test]
+fn a_state_that_nothing_leads_to_mostly_passes() {
+    let mut rng = Rng::new(9);
+    let mut drops = Drops::default();
+    let mut passed = 0;
+    for _ in 0..200 {
+        let mut tables = passing(&mut rng, Scale::Small, &mut drops).tables;
+        let states = tables.act.len();
+        conditions::unreached_state(&mut rng, &mut tables);
+        assert_eq!(tables.act.len(), states + 1);
+        let checked = check(&tables.image());
+        assert_ne!(checked.code, 4);
+        passed += usize::from(checked.code == 0);
+    }
+    assert!(passed > 50, "{passed}");
 }
 
 #[test]

@@ -3,6 +3,7 @@
 use std::collections::BTreeMap;
 use std::rc::Rc;
 
+use super::conditions;
 use super::damage::{self, TextBreak};
 use super::passing::{passing, Drops, Language, Scale};
 use super::query;
@@ -12,7 +13,8 @@ use super::tables::Tables;
 use super::wide;
 use crate::cases::{Case, Image, Text, MOST_BYTES, MOST_TREE, MOST_WORDS};
 use crate::image::{Pack, PROD_SYMBOLS};
-use crate::numbers::{DONE, RECORD_WORDS, TEXT_LIMIT};
+use crate::marked::{image_of, image_with, DEEP_PACK, ENDLESS_PACK, NESTED_EMPTY, NESTED_PACK};
+use crate::numbers::{DONE, QUERY_LONG, RECORD_LIMIT, RECORD_WORDS, SHAPE, TEXT_LIMIT};
 use crate::parse::parse;
 use crate::scan::scan;
 use crate::sets::{self, Set};
@@ -26,16 +28,56 @@ pub struct Kinds {
     pub scan: bool,
     /// Reader and writer.
     pub text: bool,
-    /// Check, parse and leaf.
+    pub check: bool,
+    /// Parse and leaf.
     pub parse: bool,
 }
 
 impl Kinds {
+    const NONE: Kinds = Kinds {
+        scan: false,
+        text: false,
+        check: false,
+        parse: false,
+    };
+
     pub const ALL: Kinds = Kinds {
         scan: true,
         text: true,
+        check: true,
         parse: true,
     };
+
+    pub const SCAN: Kinds = Kinds {
+        scan: true,
+        ..Kinds::NONE
+    };
+
+    pub const TEXT: Kinds = Kinds {
+        text: true,
+        ..Kinds::NONE
+    };
+
+    pub const CHECK: Kinds = Kinds {
+        check: true,
+        ..Kinds::NONE
+    };
+
+    pub const PARSE: Kinds = Kinds {
+        parse: true,
+        ..Kinds::NONE
+    };
+
+    pub fn by_name(name: &str) -> Option<Kinds> {
+        match name {
+            "all" => Some(Kinds::ALL),
+            "scan" => Some(Kinds::SCAN),
+            "text" => Some(Kinds::TEXT),
+            "check" => Some(Kinds::CHECK),
+            "parse" => Some(Kinds::PARSE),
+            _ => None,
+        }
+    }
 }
 
 /// An image, and the language that it was made for, if there is one.
@@ -75,6 +117,9 @@ impl Mix {
         self.bundles += 1;
         if !self.small && self.bundles % 40 == 20 {
             return self.long_bundle();
+        }
+        if self.kinds.parse && self.bundles % 20 == 10 {
+            return self.deep_bundle();
         }
         let subject = self.subject();
         self.cases_of(&subject)
@@ -142,7 +187,7 @@ impl Mix {
                 image: subject.image.clone(),
             });
         }
-        if self.kinds.parse {
+        if self.kinds.check {
             cases.push(Case::Check {
                 image: subject.image.clone(),
             });
@@ -172,11 +217,18 @@ impl Mix {
             for _ in 0..damaged {
                 self.damaged_copy(subject, &mut cases);
             }
+            if self.kinds.check {
+                for _ in 0..3 * copies {
+                    self.failing_copy(subject, &mut cases);
+                }
+            }
             if self.kinds.parse {
                 for _ in 0..copies {
                     self.changed_copy(subject, &mut cases);
                 }
             }
+        } else if good && !self.small && self.kinds.check {
+            self.failing_copy(subject, &mut cases);
         }
         cases
     }
@@ -202,11 +254,34 @@ impl Mix {
                 });
             }
         }
-        if self.kinds.parse && self.rng.once_in(10) {
+        if self.kinds.check && self.rng.once_in(10) {
             cases.push(Case::Check {
                 image: image.clone(),
             });
         }
+    }
+
+    /// The check of a copy in which one condition fails, or two, or a few random things are changed. Some have a state
+    /// that nothing leads to.
+    fn failing_copy(&mut self, subject: &Subject, cases: &mut Vec<Case>) {
+        let rng = &mut self.rng;
+        let mut tables = Tables::of(&Pack::new(&subject.image));
+        if rng.once_in(6) {
+            conditions::unreached_state(rng, &mut tables);
+        }
+        match rng.below(10) {
+            0 => random::change(rng, &mut tables),
+            1 => (),
+            many => {
+                for _ in 0..if many < 5 { 2 } else { 1 } {
+                    let condition = rng.from_to(1, 6);
+                    conditions::fail(rng, &mut tables, condition);
+                }
+            }
+        }
+        cases.push(Case::Check {
+            image: Rc::new(tables.image()),
+        });
     }
 
     fn changed_copy(&mut self, subject: &Subject, cases: &mut Vec<Case>) {
@@ -218,9 +293,11 @@ impl Mix {
             image: Rc::new(tables.image()),
             language: None,
         };
-        cases.push(Case::Check {
-            image: copy.image.clone(),
-        });
+        if self.kinds.check {
+            cases.push(Case::Check {
+                image: copy.image.clone(),
+            });
+        }
         // A query that the image itself may accept, so that the parse gets to the changes.
         let text = Rc::new(self.query(subject));
         self.parses(&copy, &text, cases);
@@ -260,6 +337,9 @@ impl Mix {
             text.truncate(rng.from_to(0, 120));
         }
         text.truncate(3_000);
+        if self.kinds.parse && rng.once_in(12) {
+            text.truncate(rng.below(2));
+        }
         text
     }
 
@@ -379,66 +459,72 @@ impl Mix {
         let mut tree = vec![0; MOST_TREE];
         let probe = parse(&subject.image, text, &mut tree, PROBE);
         let rng = &mut self.rng;
-        let needed = probe.records as usize * RECORD_WORDS;
-        let mut pairs = vec![(needed + rng.below(40), probe.moves.max(1).saturating_mul(2))];
-        if probe.records > 0 && rng.percent(50) {
-            let less = rng.below(probe.records as usize);
-            pairs.push((less * RECORD_WORDS + rng.below(RECORD_WORDS), u32::MAX));
+        let (needed, moves) = (probe.records as usize * RECORD_WORDS, probe.moves);
+        let mut pairs = vec![
+            (needed + rng.below(40), moves.max(1).saturating_mul(2)),
+            (needed, moves),
+            (needed, u32::MAX),
+        ];
+        if let Some(less) = needed.checked_sub(1) {
+            pairs.push((less - rng.below(RECORD_WORDS), u32::MAX));
+            pairs.push((rng.from_to(0, less), u32::MAX));
         }
-        if rng.percent(25) {
-            pairs.push((needed, u32::MAX));
+        if let Some(less) = moves.checked_sub(1) {
+            pairs.push((needed + RECORD_WORDS, less));
+            pairs.push((needed, rng.from_to(0, less as usize) as u32));
+            let room = rng.from_to(0, needed);
+            pairs.push((room, rng.from_to(0, less as usize) as u32));
         }
-        if probe.moves > 0 && rng.percent(50) {
-            let allowance = match rng.below(4) {
-                0 => probe.moves,
-                1 => probe.moves - 1,
-                _ => rng.below(probe.moves as usize) as u32,
+        for (i, (tree, allowance)) in pairs.into_iter().enumerate() {
+            // A stored file has few of them for each text, and a parse that is refused before its run is made once.
+            let wanted = match probe.code {
+                QUERY_LONG | SHAPE => i == 0,
+                _ => i == 0 || !self.small || self.rng.percent(35),
             };
-            pairs.push((needed + 4, allowance));
-        }
-        if rng.once_in(6) {
-            let less = rng.from_to(0, needed);
-            let allowance = rng.from_to(0, probe.moves as usize) as u32;
-            pairs.push((less, allowance));
-        }
-        for (tree, allowance) in pairs {
-            cases.push(Case::Parse {
-                image: subject.image.clone(),
-                text: text.clone(),
-                tree: tree.min(MOST_TREE) as u32,
-                // A parse that the probe could not finish is bounded as the probe was.
-                allowance: if probe.moves == PROBE {
-                    allowance.min(PROBE)
-                } else {
-                    allowance
-                },
-            });
-        }
-        if rng.percent(50) {
-            for _ in 0..rng.from_to(1, 3) {
-                let mut words = [0; 4];
-                if probe.records > 0 {
-                    let first = rng.below(probe.records as usize) * RECORD_WORDS;
-                    words.copy_from_slice(&tree[first..first + RECORD_WORDS]);
-                }
-                if rng.percent(50) {
-                    let i = rng.below(3);
-                    words[i] = match rng.below(4) {
-                        0 => *rng.pick(&[0, 1, 63, 64, 65_535]),
-                        1 => rng.from_to(0, text.len() + 2) as u16,
-                        2 => words[i].wrapping_add(1),
-                        _ => rng.number() as u16,
-                    };
-                }
-                if rng.once_in(6) {
-                    let start = rng.from_to(0, text.len());
-                    words = [rng.from_to(1, 63) as u16, start as u16, 0, words[3]];
-                }
-                cases.push(Case::Leaf {
+            if wanted {
+                cases.push(Case::Parse {
+                    image: subject.image.clone(),
                     text: text.clone(),
-                    words,
+                    tree: tree.min(MOST_TREE) as u32,
+                    // A parse that the probe could not finish is bounded as the probe was.
+                    allowance: match moves {
+                        PROBE => allowance.min(PROBE),
+                        _ => allowance,
+                    },
                 });
             }
+        }
+        if self.rng.percent(50) {
+            self.leaves(text, &tree[..needed], cases);
+        }
+    }
+
+    /// Leaves of a text: its records, some with a word changed, and some without a length.
+    fn leaves(&mut self, text: &Text, records: &[u16], cases: &mut Vec<Case>) {
+        let rng = &mut self.rng;
+        for _ in 0..rng.from_to(1, 3) {
+            let mut words = [0; RECORD_WORDS];
+            if !records.is_empty() {
+                let first = rng.below(records.len() / RECORD_WORDS) * RECORD_WORDS;
+                words.copy_from_slice(&records[first..first + RECORD_WORDS]);
+            }
+            if rng.percent(50) {
+                let i = rng.below(3);
+                words[i] = match rng.below(4) {
+                    0 => *rng.pick(&[0, 1, 63, 64, 65_535]),
+                    1 => rng.from_to(0, text.len() + 2) as u16,
+                    2 => words[i].wrapping_add(1),
+                    _ => rng.number() as u16,
+                };
+            }
+            if rng.once_in(6) {
+                let start = rng.from_to(0, text.len());
+                words = [rng.from_to(1, 63) as u16, start as u16, 0, words[3]];
+            }
+            cases.push(Case::Leaf {
+                text: text.clone(),
+                words,
+            });
         }
     }
 
@@ -519,7 +605,8 @@ impl Mix {
             image: Rc::new(passing.tables.image()),
             language: None,
         };
-        for length in [TEXT_LIMIT, TEXT_LIMIT + 1 + self.rng.below(20)] {
+        let more = *self.rng.pick(&[1, 1, 2, 20]);
+        for length in [TEXT_LIMIT, TEXT_LIMIT + more] {
             if self.kinds.scan || self.kinds.parse {
                 let pack = Pack::new(&subject.image);
                 let likely = query::likely_bytes(&mut self.rng, &pack);
@@ -559,6 +646,39 @@ impl Mix {
             language: Some(Rc::new(passing.language)),
         };
         cases.extend(self.cases_of(&subject));
+        cases
+    }
+
+    /// Texts that bring the stack to about 512 states, and a room for about 65,535 records.
+    fn deep_bundle(&mut self) -> Vec<Case> {
+        let mut cases = Vec::new();
+        for _ in 0..2 {
+            let mut image = match self.rng.below(3) {
+                0 => image_of(DEEP_PACK),
+                1 => image_of(NESTED_PACK),
+                _ => image_with(NESTED_PACK, &NESTED_EMPTY),
+            };
+            if self.rng.once_in(3) {
+                let mut tables = Tables::of(&Pack::new(&image));
+                random::change(&mut self.rng, &mut tables);
+                image = tables.image();
+            }
+            let subject = Subject {
+                image: Rc::new(image),
+                language: None,
+            };
+            let text = vec![b'a'; self.rng.from_to(507, 514)];
+            self.parses(&subject, &Rc::new(text), &mut cases);
+        }
+        if !self.small && self.rng.once_in(20) {
+            let records = self.rng.from_to(RECORD_LIMIT - 1, RECORD_LIMIT + 1);
+            cases.push(Case::Parse {
+                image: Rc::new(image_of(ENDLESS_PACK)),
+                text: Rc::new(b"a".to_vec()),
+                tree: (RECORD_WORDS * records + self.rng.below(RECORD_WORDS)) as u32,
+                allowance: u32::MAX,
+            });
+        }
         cases
     }
 

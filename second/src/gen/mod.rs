@@ -1,7 +1,8 @@
 //! The generator: packs, pack texts and queries from a seed, from three sources. `passing` builds packs that pass,
-//! `random` images of good shape that are otherwise random, and `damage` breaks images, texts and queries. `mix`
-//! makes cases of them.
+//! `random` images of good shape that are otherwise random, and `damage` breaks images, texts and queries; `conditions`
+//! makes a condition of the check fail. `mix` makes cases of them.
 
+pub mod conditions;
 pub mod damage;
 pub mod grammar;
 pub mod lr;

@@ -1,0 +1,150 @@
+/* How much stack each entry point of the proved library uses. Each call runs on a thread whose stack was painted before; what is no longer
+ * paint was used. What a thread uses that calls nothing is taken off. Every pack of the folder is given, whole and with each of its words
+ * wrong in turn, so that the ways of a refusal are gone too; the greatest use counts.
+ *   stack PACKS    PACKS is the folder of small.pack, json.pack and profile.pack */
+#include <pthread.h>
+#include <stdio.h>
+#include <stdlib.h>
+#include <string.h>
+
+#include "../include/zhgarelli.h"
+
+enum { MOST_WORDS = 20589, MOST_BYTES = 65535, TREE_WORDS = 4 * 1000, STACK_BYTES = 1 << 20, PAINT = 0xa5 };
+
+static _Alignas(4096) uint8_t stack[STACK_BYTES];
+
+/* What the calls are given. */
+static uint16_t image[MOST_WORDS], buffer[MOST_WORDS], tree[TREE_WORDS];
+static uint8_t pack_text[MOST_BYTES], text[MOST_BYTES];
+static size_t words, pack_bytes;
+static const char *query;
+static uint64_t out[6];
+
+static void nothing(void)
+{
+}
+
+static void shape(void)
+{
+    zhg_shape(image, words, out, 6);
+}
+
+static void scan(void)
+{
+    zhg_scan(image, words, (const uint8_t *)query, strlen(query), 0, UINT64_MAX, UINT32_MAX, out, 6);
+}
+
+static void reads(void)
+{
+    zhg_read(pack_text, pack_bytes, buffer, MOST_WORDS, out, 6);
+}
+
+static void writes(void)
+{
+    zhg_write(image, words, text, MOST_BYTES, out, 6);
+}
+
+static void check(void)
+{
+    zhg_check(image, words, out, 6);
+}
+
+static void parse(void)
+{
+    zhg_parse(image, words, (const uint8_t *)query, strlen(query), tree, TREE_WORDS, UINT32_MAX, out, 6);
+}
+
+static void leaf(void)
+{
+    zhg_leaf((const uint8_t *)query, strlen(query), tree, 4, out, 6);
+}
+
+static struct entry {
+    const char *name;
+    void (*call)(void);
+    size_t most;
+} entries[] = {
+    {"nothing", nothing, 0}, {"zhg_shape", shape, 0}, {"zhg_scan", scan, 0},   {"zhg_read", reads, 0},
+    {"zhg_write", writes, 0}, {"zhg_check", check, 0}, {"zhg_parse", parse, 0}, {"zhg_leaf", leaf, 0},
+};
+enum { ENTRIES = sizeof entries / sizeof *entries };
+
+static _Noreturn void fail(const char *what)
+{
+    fprintf(stderr, "stack: %s\n", what);
+    exit(1);
+}
+
+static void *start(void *call)
+{
+    (*(void (**)(void))call)();
+    return NULL;
+}
+
+static size_t used(void (*call)(void))
+{
+    pthread_attr_t attributes;
+    pthread_t thread;
+    memset(stack, PAINT, STACK_BYTES);
+    pthread_attr_init(&attributes);
+    if (pthread_attr_setstack(&attributes, stack, STACK_BYTES) || pthread_create(&thread, &attributes, start, &call))
+        fail("a thread cannot be started");
+    pthread_join(thread, NULL);
+    pthread_attr_destroy(&attributes);
+    size_t free = 0;
+    while (free < STACK_BYTES && stack[free] == PAINT)
+        free++;
+    if (free == 0)
+        fail("the stack is too small");
+    return STACK_BYTES - free;
+}
+
+static void measure(void)
+{
+    for (size_t i = 0; i < ENTRIES; i++) {
+        size_t bytes = used(entries[i].call);
+        if (bytes > entries[i].most)
+            entries[i].most = bytes;
+    }
+}
+
+static void measure_pack(const char *folder, const char *name, const char *good_query, size_t apart)
+{
+    char path[4096];
+    snprintf(path, sizeof path, "%s/%s", folder, name);
+    FILE *file = fopen(path, "rb");
+    if (!file)
+        fail("a pack is not in the folder");
+    pack_bytes = fread(pack_text, 1, MOST_BYTES, file);
+    fclose(file);
+    zhg_read(pack_text, pack_bytes, image, MOST_WORDS, out, 6);
+    if (out[0] != 0)
+        fail("a pack text is refused");
+    words = out[1];
+    query = good_query;
+    measure();
+    for (size_t i = 0; i < words; i += apart) {
+        uint16_t word = image[i];
+        uint8_t byte = pack_text[i];
+        image[i] = (uint16_t)(word + 1);
+        pack_text[i] = 'x';
+        measure();
+        image[i] = word;
+        pack_text[i] = byte;
+    }
+    query = "?";
+    measure();
+}
+
+int main(int count, char **given)
+{
+    if (count != 2)
+        fail("usage: stack PACKS");
+    measure_pack(given[1], "small.pack", "tax by day", 1);
+    measure_pack(given[1], "json.pack", "[1, {\"a\": null}]", 20);
+    measure_pack(given[1], "profile.pack", "share of std::sort under main", 100);
+    printf("| entry point | bytes of stack |\n|---|---|\n");
+    for (size_t i = 1; i < ENTRIES; i++)
+        printf("| `%s` | %zu |\n", entries[i].name, entries[i].most - entries[0].most);
+    return 0;
+}
