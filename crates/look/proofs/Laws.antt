@@ -20,7 +20,7 @@ use Rattle.shape.specs.Shape.{shape}
 use Rattle.pack.proofs.Valid.{valid-lt}
 use Rattle.scan.specs.declared.Stop.{Stop}
 use Rattle.scan.specs.Scan.{scan, nothing}
-use Rattle.scan.specs.Tables.{Subset}
+use Rattle.conditions.specs.Conditions.{Subset}
 use Rattle.scan.specs.Token.{chosenIn, terminalOf}
 use Rattle.scan.proofs.Theory.{scan-stops, at-end}
 use Rattle.scan.proofs.Laws.{rest-of}

@@ -1,2 +1,3 @@
 pub mod Marked
+pub mod Passing
 pub mod Unique

@@ -11,9 +11,10 @@ use Rattle.shape.specs.Shape.{rule, andThen, each, sizeRule, lengthRule, fits, 
 use Rattle.scan.specs.Scan.{remember, scanFrom}
 use Rattle.scan.specs.Token.{chosenIn, terminalOf}
 use Rattle.parse.specs.Parse.{skipFrom, rescan, choose, findToken, reduceBy, accept, perform, step, settle, run, runAll, parse}
-use Rattle.checker.specs.Edges.{allBelow, someBelow, leastFrom, implies, isEdge, leads, onlyOn, sourcesFrom, reached}
-use Rattle.checker.specs.Tests.{outrankedFrom, k1, within, k2, k3, enters, entering, k4, reduces, steps, k5, k6}
-use Rattle.checker.specs.Check.{finding, least, find1, find2, find3, find4, find5, find6, report, check}
+use Rattle.conditions.specs.Tests.{allBelow, someBelow, implies, same as alike}
+use Rattle.conditions.specs.Edges.{shiftOf, edgeTo, isEdge, leads, enters, onlyOn, reached}
+use Rattle.conditions.specs.Conditions.{outranked, k1, within, k2, isGroup, settled, k3, k4, reduces, steps, ends, k5, fromStart, k6}
+use Rattle.conditions.specs.Check.{number, firsts, seconds, test, inRow, inRows, find, report, firstFailing, checkAll, check}
 use Rattle.text.specs.Fields.{isDigit, digitsFrom, numberIn, readNumber, hexDigit, hexFrom, readSet, readField, wordsOf, decimal, hexOf, hexWord, fieldText}
 use Rattle.text.specs.Form.{after, packLine, sizes, tablesOf, rowWidth}
 use Rattle.text.specs.Reader.{thenRead, expect, fieldThen, fields, zeros, symbolsOf, readRow, thenLines, asLine, readLines, readTables, limited, readHead, ended, readAll, Lines, all}
@@ -23,7 +24,7 @@ use Rattle.promise.specs.Marked.{cases, same, ofParse, ofCheck, right, a
 
 -- Every marked case, variant and check.
 pub marked : T (allRight cases)
-unfolding trailingZeros has member lacks isEmpty subset countBelow several setAt leastSize greatestSize layout dom lhs len symbol act goto move actionOf lo hi rangeClass acc rej poss groupSet chosen classIn validFrom rule andThen each sizeRule lengthRule fits layoutRule domRight domRule isSymbol symbolRule prodRule actRight actRule cellRule gotoRules moveRules abovePrevious rangeRule emptyAtStart scanRule differs groupRule parserRules scannerRules headRules shape remember scanFrom chosenIn terminalOf skipFrom rescan choose findToken reduceBy accept perform step settle run runAll parse allBelow someBelow leastFrom implies isEdge leads onlyOn sourcesFrom reached outrankedFrom k1 within k2 k3 enters entering k4 reduces steps k5 k6 finding least find1 find2 find3 find4 find5 find6 report check small small11 small12 small12too cases same ofParse ofCheck right allRight
+unfolding trailingZeros has member lacks isEmpty subset countBelow several setAt leastSize greatestSize layout dom lhs len symbol act goto move actionOf lo hi rangeClass acc rej poss groupSet chosen classIn validFrom rule andThen each sizeRule lengthRule fits layoutRule domRight domRule isSymbol symbolRule prodRule actRight actRule cellRule gotoRules moveRules abovePrevious rangeRule emptyAtStart scanRule differs groupRule parserRules scannerRules headRules shape remember scanFrom chosenIn terminalOf skipFrom rescan choose findToken reduceBy accept perform step settle run runAll parse allBelow someBelow implies alike shiftOf edgeTo isEdge leads enters onlyOn reached outranked k1 within k2 isGroup settled k3 k4 reduces steps ends k5 fromStart k6 number firsts seconds test inRow inRows find report firstFailing checkAll check small small11 small12 small12too cases same ofParse ofCheck right allRight
 marked = tt
 
 -- "Its image has 189 words".

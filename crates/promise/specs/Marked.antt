@@ -9,8 +9,8 @@ use Rattle.text.specs.Bytes.{bytes}
 use Rattle.numbers.specs.Codes.{greatestAllowance}
 use Rattle.parse.specs.declared.Parsed.{Parsed}
 use Rattle.parse.specs.Parse.{parse, treeAfter}
-use Rattle.checker.specs.declared.Checked.{Checked}
-use Rattle.checker.specs.Check.{check}
+use Rattle.conditions.specs.declared.Checked.{Checked}
+use Rattle.conditions.specs.Check.{check}
 use Rattle.promise.specs.SmallPack.{small, small11, small12, small12too}
 
 -- A parse of a text by a pack, with a tree of so many records and an allowance, gives code, place, length, terminal, records and

@@ -21,7 +21,7 @@ use Rattle.scan.specs.declared.Remembered.{Remembered}
 use Rattle.scan.specs.declared.Stop.{Stop}
 use Rattle.scan.specs.Scan.{nothing, remember, stopped, usedUp, scanFrom, scan}
 use Rattle.scan.specs.Matching.{ledFrom, Leads, Last}
-use Rattle.scan.specs.Tables.{Subset, matched, Outranked, K1, K2}
+use Rattle.conditions.specs.Conditions.{Subset, matched, Outranked, K1, K2}
 use Rattle.scan.proofs.Theory.{Way, nowhere, no-way, spent, goes, way, at-end}
 
 -- What is in neither of two sets is not in their union, and the other way round.

@@ -18,7 +18,7 @@ use Rattle.shape.proofs.Good.{good-laid, good-move, good-class, good-acc, good-
 use Rattle.scan.specs.declared.Remembered.{Remembered}
 use Rattle.scan.specs.declared.Stop.{Stop}
 use Rattle.scan.specs.Scan.{nothing, remember, stopped, usedUp, moveOn, onward, scanFrom, scan}
-use Rattle.scan.specs.Tables.{Subset}
+use Rattle.conditions.specs.Conditions.{Subset}
 use Rattle.scan.proofs.Laws.{stops}
 
 -- The ways that one byte of a scan can go, and the end of the bytes. Theorems about the scan go by these and never look into it.

@@ -1,5 +1,4 @@
 pub mod Matching
 pub mod Ready
 pub mod Scan
-pub mod Tables
 pub mod Token

@@ -7,7 +7,7 @@ use Prim.Native.Nat.{ℕ, zero, suc, _<_, _≤_}
 use lib.ListN.{length, take}
 use Rattle.sets.specs.Sets.{has, meet}
 use Rattle.pack.specs.Image.{classOf, move, acc, rej}
-use Rattle.scan.specs.Tables.{matched}
+use Rattle.conditions.specs.Conditions.{matched}
 
 -- Where the moves on these bytes lead from state q on: 1 more than the state, or 0 where there is no way.
 unfoldable pub ledFrom : List ℕ → ℕ → List ℕ → ℕ

@@ -1,0 +1,5 @@
+pub mod Answers
+pub mod Decides
+pub mod EdgeLaws
+pub mod TestLaws
+pub mod WalkLaws

@@ -1,0 +1,13 @@
+use borrow.Author.Needs.{needs}
+use Rattle.edges.proofs.RowLaws as laws
+use Rattle.edges.proofs.rows.collect.Statement.{statement}
+use Rattle.edges.proofs.rows.collect.Tie as tie
+
+returns : tie.Need-returns
+returns c =
+    let j = c .before .before in
+    let a = j .before .before in
+    rw (c .write .ensures) (laws.made-is _ _ (a .pre .0) (a .pre .1 .0) (j .before .join .ensures) (j .join2 .ensures))
+
+pub collect-spec : {M : Type 1} → statement M
+collect-spec = tie.close (tie.spec (λ c κs. search needs) (λ c κs. search needs) (λ c κs. search needs) returns)

@@ -1,0 +1,52 @@
+use borrow.Author.Needs.{needs}
+use mathlib.Core.Path.{_≡_, sym, ap₂}
+use mathlib.Core.Bool.{true}
+use Prim.Native.Nat.{ℕ, _-_, _≤_, _<_}
+use native.Mathlib.Omega.{arith}
+use native.Mathlib.Nat.{not-suc-le-zero}
+use lib.Bits.{bitOr}
+use borrow.Author.Count.{below-more}
+use Rattle.sets.specs.Sets.{member}
+use Rattle.pack.specs.Image.{terminals, rej, acc}
+use Rattle.conditions.proofs.TestLaws.{all-true, all-false}
+use Rattle.conditions.specs.Conditions.{matched, outranked, k1}
+use Rattle.conditions.specs.Tests.{same}
+use Rattle.scancheck.proofs.Laws.{k1-test}
+use Rattle.scancheck.proofs.k1.Statement.{statement}
+use Rattle.scancheck.proofs.k1.Tie as tie
+
+abbrev Inv-loop : tie.InvT-loop
+Inv-loop img q n rj m t₀ t = (t ≤ n) × (n ≡ terminals img) × (rj ≡ rej img q) × (m ≡ matched img q)
+    × ((i : ℕ) → i < t → same (member (rej img q) i) (outranked img (matched img q) i) ≡ true)
+
+abbrev μ-loop : tie.MeasureT-loop
+μ-loop img q n rj m t₀ t = n - t
+
+loop-holds : tie.Need-loop-holds Inv-loop μ-loop
+loop-holds c =
+    let r = c .before in
+    (search needs, search needs, r .rej .ensures, ap₂ (λ (x y : ℕ). bitOr x y) (c .acc .ensures) (r .rej .ensures), λ i l. absurd (not-suc-le-zero l))
+
+loop-again : tie.Need-loop-again Inv-loop μ-loop
+loop-again c =
+    let g = c .before in
+    let o = g .before in
+    let l = o .before .before in
+    let v = l .before .loop .inv in
+    (search needs, v .1, v .2, v .3, below-more _ _ (v .4) (k1-test _ _ _ (v .2) (v .3) (o .before .member .ensures) (o .outranked .ensures) (g .agree .ensures) (c .if1 .taken)))
+
+returns : tie.Need-returns Inv-loop μ-loop
+unfolding k1
+returns c =
+    let g = c .before in
+    let o = g .before in
+    let l = o .before .before in
+    let v = l .before .loop .inv in
+    sym (all-false _ _ (l .before .loop .t) (omega arith) (k1-test _ _ _ (v .2) (v .3) (o .before .member .ensures) (o .outranked .ensures) (g .agree .ensures) (c .if1 .left)))
+
+returns-2 : tie.Need-returns-2 Inv-loop μ-loop
+unfolding k1
+returns-2 c = sym (all-true _ _ (λ i l. c .before .loop .inv .4 i (omega arith)))
+
+pub k1-spec : {M : Type 1} → statement M
+k1-spec = tie.close (tie.spec Inv-loop μ-loop (λ c κs. search needs) (λ c κs. search needs) (λ c κs. search needs) loop-holds (λ c κs. search needs) (λ c κs. search needs) (λ c κs. search needs) (λ c. search needs) (λ c. search needs) loop-again returns returns-2)
