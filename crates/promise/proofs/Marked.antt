@@ -8,9 +8,10 @@ use lib.ListN.{length}
 use Rattle.sets.specs.Sets.{has, member, lacks, isEmpty, subset, countBelow, several}
 use Rattle.pack.specs.Image.{setAt, leastSize, greatestSize, layout, dom, lhs, len, symbol, act, goto, move, actionOf, lo, hi, rangeClass, acc, rej, poss, groupSet, chosen, classIn, validFrom}
 use Rattle.shape.specs.Shape.{rule, andThen, each, sizeRule, lengthRule, fits, layoutRule, domRight, domRule, isSymbol, symbolRule, prodRule, actRight, actRule, cellRule, gotoRules, moveRules, abovePrevious, rangeRule, emptyAtStart, scanRule, differs, groupRule, parserRules, scannerRules, headRules, shape}
-use Rattle.scan.specs.Scan.{remember, scanFrom}
+use Rattle.scan.specs.Scan.{remember, moveOn, onward, scanFrom}
 use Rattle.scan.specs.Token.{chosenIn, terminalOf}
-use Rattle.parse.specs.Parse.{skipFrom, rescan, choose, findToken, reduceBy, accept, perform, step, settle, run, runAll, parse}
+use Rattle.look.specs.Look.{seek, rescan, choose, token, skip, look}
+use Rattle.parse.specs.Parse.{reduceBy, accept, perform, step, run, parse}
 use Rattle.conditions.specs.Tests.{allBelow, someBelow, implies, same as alike}
 use Rattle.conditions.specs.Edges.{shiftOf, edgeTo, isEdge, leads, enters, onlyOn, reached}
 use Rattle.conditions.specs.Conditions.{outranked, k1, within, k2, isGroup, settled, k3, k4, reduces, steps, ends, k5, fromStart, k6}
@@ -24,7 +25,7 @@ use Rattle.promise.specs.Marked.{cases, same, ofParse, ofCheck, right, a
 
 -- Every marked case, variant and check.
 pub marked : T (allRight cases)
-unfolding trailingZeros has member lacks isEmpty subset countBelow several setAt leastSize greatestSize layout dom lhs len symbol act goto move actionOf lo hi rangeClass acc rej poss groupSet chosen classIn validFrom rule andThen each sizeRule lengthRule fits layoutRule domRight domRule isSymbol symbolRule prodRule actRight actRule cellRule gotoRules moveRules abovePrevious rangeRule emptyAtStart scanRule differs groupRule parserRules scannerRules headRules shape remember scanFrom chosenIn terminalOf skipFrom rescan choose findToken reduceBy accept perform step settle run runAll parse allBelow someBelow implies alike shiftOf edgeTo isEdge leads enters onlyOn reached outranked k1 within k2 isGroup settled k3 k4 reduces steps ends k5 fromStart k6 number firsts seconds test inRow inRows find report firstFailing checkAll check small small11 small12 small12too cases same ofParse ofCheck right allRight
+unfolding trailingZeros has member lacks isEmpty subset countBelow several setAt leastSize greatestSize layout dom lhs len symbol act goto move actionOf lo hi rangeClass acc rej poss groupSet chosen classIn validFrom rule andThen each sizeRule lengthRule fits layoutRule domRight domRule isSymbol symbolRule prodRule actRight actRule cellRule gotoRules moveRules abovePrevious rangeRule emptyAtStart scanRule differs groupRule parserRules scannerRules headRules shape remember moveOn onward scanFrom chosenIn terminalOf seek rescan choose token skip look reduceBy accept perform step run parse allBelow someBelow implies alike shiftOf edgeTo isEdge leads enters onlyOn reached outranked k1 within k2 isGroup settled k3 k4 reduces steps ends k5 fromStart k6 number firsts seconds test inRow inRows find report firstFailing checkAll check small small11 small12 small12too cases same ofParse ofCheck right allRight
 marked = tt
 
 -- "Its image has 189 words".
