@@ -1,25 +1,23 @@
--- What the C entry points put into the lent row of numbers, in document 01's order.
-use mathlib.Core.Bool.{Bool, true, false}
-use mathlib.Core.List.{List, [], _∷_, _++_}
+-- Manual, section 5.3: what the C entry points put into the lent row of numbers: all of them at its front, or none where they do not fit.
+use mathlib.Core.List.{List, [], _∷_}
 use Prim.Native.Nat.{ℕ}
-use lib.Dec.{ltb}
-use lib.ListN.{length, drop}
+use lib.ListN.{length}
+use Rattle.numbers.specs.Front.{Delivery, deliver, bufferAfter}
 use Rattle.shape.specs.declared.Verdict.{Verdict}
-use Rattle.shape.specs.Shape.{codeOf, placeOf}
+use Rattle.shape.specs.Shape.{verdictCode, verdictPlace}
 use Rattle.scan.specs.declared.Scanned.{Scanned}
-use Rattle.numbers.specs.Front.{Delivery}
 
--- So many numbers are told, or none where there is no room.
-unfoldable pub told : List ℕ → ℕ → ℕ
-told out n = elim (ltb (length out) n) [ true ↦ 0 | false ↦ n ]
+-- How many are told.
+abbrev pub told : List ℕ → List ℕ → ℕ
+told out numbers = length (deliver numbers (length out) .written)
 
--- They stand at the front, the rest as it was; where there is no room, all as it was.
-unfoldable pub written : List ℕ → List ℕ → List ℕ
-written out numbers = elim (ltb (length out) (length numbers)) [ true ↦ out | false ↦ numbers ++ drop (length numbers) out ]
+-- What the row holds afterwards.
+abbrev pub written : List ℕ → List ℕ → List ℕ
+written out numbers = bufferAfter out (deliver numbers (length out))
 
 -- Code and place.
 abbrev pub ofShape : Verdict → List ℕ
-ofShape v = codeOf v ∷ placeOf v ∷ []
+ofShape v = verdictCode v ∷ verdictPlace v ∷ []
 
 -- Code, place, set, length and moves.
 abbrev pub ofScan : Scanned → List ℕ

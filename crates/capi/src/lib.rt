@@ -1,5 +1,5 @@
 // The entry points for C: include/zhgarelli.h declares them. A slice is a pointer and a length; the numbers given back go to the front of
-// `out`, in document 01's order, and the function answers how many they are. Where `out` has no room for them nothing is written
+// `out`, in the order that each function names, and it answers how many they are. Where `out` has no room for them nothing is written
 // there, and the answer is 0.
 ghost use mathlib.Core.Path.{_≡_};
 ghost use mathlib.Core.List.{[], _∷_};
@@ -12,7 +12,7 @@ ghost use Rattle.text.specs.Writer.{write};
 
 // Two numbers, where there is room for them.
 fn put2(out: &mut [u64], a: u64, b: u64) -> usize
-    ensures { λ r. ⌜ r ≡ told (now (out .entry)) 2 ⌝ }
+    ensures { λ r. ⌜ r ≡ told (now (out .entry)) (a ∷ b ∷ []) ⌝ }
     ensures { λ r. ⌜ now (out .exit) ≡ written (now (out .entry)) (a ∷ b ∷ []) ⌝ }
 {
     if out.len() < 2 {
@@ -25,7 +25,7 @@ fn put2(out: &mut [u64], a: u64, b: u64) -> usize
 
 // Five numbers, where there is room for them.
 fn put5(out: &mut [u64], a: u64, b: u64, c: u64, d: u64, e: u64) -> usize
-    ensures { λ r. ⌜ r ≡ told (now (out .entry)) 5 ⌝ }
+    ensures { λ r. ⌜ r ≡ told (now (out .entry)) (a ∷ b ∷ c ∷ d ∷ e ∷ []) ⌝ }
     ensures { λ r. ⌜ now (out .exit) ≡ written (now (out .entry)) (a ∷ b ∷ c ∷ d ∷ e ∷ []) ⌝ }
 {
     if out.len() < 5 {
@@ -42,11 +42,13 @@ fn put5(out: &mut [u64], a: u64, b: u64, c: u64, d: u64, e: u64) -> usize
 // Shape: code and place.
 #[no_mangle]
 pub extern "C" fn zhg_shape(img: &[u16], out: &mut [u64]) -> usize
-    ensures { λ r. ⌜ r ≡ told (now (out .entry)) 2 ⌝ }
+    ensures { λ r. ⌜ r ≡ told (now (out .entry)) (ofShape (shape (now (img .entry)))) ⌝ }
     ensures { λ r. ⌜ now (out .exit) ≡ written (now (out .entry)) (ofShape (shape (now (img .entry)))) ⌝ }
 {
     let v = shape::shape(img);
-    put2(out, shape::code_of(v) as u64, shape::place_of(v) as u64)
+    let code = shape::verdict_code(v) as u64;
+    let place = shape::verdict_place(v) as u64;
+    put2(out, code, place)
 }
 
 // The scan called by itself: code, place, set, length and moves.
@@ -59,7 +61,7 @@ pub extern "C" fn zhg_scan(
     allowance: u32,
     out: &mut [u64],
 ) -> usize
-    ensures { λ r. ⌜ r ≡ told (now (out .entry)) 5 ⌝ }
+    ensures { λ r. ⌜ r ≡ told (now (out .entry)) (ofScan (scanAlone (now (img .entry)) (now (text .entry)) start set allowance)) ⌝ }
     ensures { λ r. ⌜ now (out .exit) ≡ written (now (out .entry)) (ofScan (scanAlone (now (img .entry)) (now (text .entry)) start set allowance)) ⌝ }
 {
     let s = scan::scan(img, text, start, set, allowance);
@@ -76,21 +78,21 @@ pub extern "C" fn zhg_scan(
 // Reads a pack text: code and number; the image goes to the front of the buffer.
 #[no_mangle]
 pub extern "C" fn zhg_read(text: &[u8], buffer: &mut [u16], out: &mut [u64]) -> usize
-    ensures { λ r. ⌜ r ≡ told (now (out .entry)) 2 ⌝ }
+    ensures { λ r. ⌜ r ≡ told (now (out .entry)) (ofText (read (now (text .entry)) (now (buffer .entry)))) ⌝ }
     ensures { λ r. ⌜ now (out .exit) ≡ written (now (out .entry)) (ofText (read (now (text .entry)) (now (buffer .entry)))) ⌝ }
     ensures { λ r. ⌜ now (buffer .exit) ≡ bufferAfter (now (buffer .entry)) (read (now (text .entry)) (now (buffer .entry))) ⌝ }
 {
-    let a = text::read(text, buffer);
-    put2(out, a.code as u64, a.number as u64)
+    let read = reader::read(text, buffer);
+    put2(out, read.code as u64, read.number as u64)
 }
 
 // Writes an image as pack text: code and number; the text goes to the front of the buffer.
 #[no_mangle]
 pub extern "C" fn zhg_write(img: &[u16], buffer: &mut [u8], out: &mut [u64]) -> usize
-    ensures { λ r. ⌜ r ≡ told (now (out .entry)) 2 ⌝ }
+    ensures { λ r. ⌜ r ≡ told (now (out .entry)) (ofText (write (now (img .entry)) (now (buffer .entry)))) ⌝ }
     ensures { λ r. ⌜ now (out .exit) ≡ written (now (out .entry)) (ofText (write (now (img .entry)) (now (buffer .entry)))) ⌝ }
     ensures { λ r. ⌜ now (buffer .exit) ≡ bufferAfter (now (buffer .entry)) (write (now (img .entry)) (now (buffer .entry))) ⌝ }
 {
-    let a = text::write(img, buffer);
-    put2(out, a.code as u64, a.number as u64)
+    let wrote = writer::write(img, buffer);
+    put2(out, wrote.code as u64, wrote.number as u64)
 }

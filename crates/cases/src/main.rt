@@ -53,8 +53,8 @@ fn join(raw: &[u8], img: &mut [u16]) {
 
 fn shape(img: &[u16]) {
     let v = shape::shape(img);
-    print(shape::code_of(v) as u64, b',');
-    print(shape::place_of(v) as u64, b'\n');
+    print(shape::verdict_code(v) as u64, b',');
+    print(shape::verdict_place(v) as u64, b'\n');
 }
 
 fn scan(img: &[u16], text: &[u8], head: &[u8; 40]) {
@@ -118,7 +118,7 @@ fn pattern_of_bytes(room: &mut [u8]) {
 
 fn read_into(text: &[u8], room: &mut [u16]) {
     pattern_of_words(room);
-    let a = text::read(text, room);
+    let a = reader::read(text, room);
     print(a.code as u64, b',');
     print(a.number as u64, b',');
     print(sum_of_words(room), b'\n');
@@ -126,7 +126,7 @@ fn read_into(text: &[u8], room: &mut [u16]) {
 
 fn write_into(img: &[u16], room: &mut [u8]) {
     pattern_of_bytes(room);
-    let a = text::write(img, room);
+    let a = writer::write(img, room);
     print(a.code as u64, b',');
     print(a.number as u64, b',');
     print(sum_of_bytes(room), b'\n');

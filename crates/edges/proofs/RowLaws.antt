@@ -17,7 +17,7 @@ use Rattle.sets.specs.Sets.{has, member, subset, lowest}
 use Rattle.sets.proofs.Laws.{has-lt, has-none, has-above, has-zero, has-suc, has-or, lowest-lt, lowest-in}
 use Rattle.conditions.specs.Tests.{allBelow, someBelow, implies}
 use Rattle.conditions.proofs.TestLaws.{alike, false-true, not-true, implies-gives, implies-all, all-each, all-true, member-has, has-member, subset-is}
-use Rattle.edges.specs.Rows.{bitAt, either, Put, PutOne, PutEach, Half, allIn, onlyIn, Lowest, First, joined, Made}
+use Rattle.edges.specs.Rows.{bitAt, either, Put, PutOne, PutEach, Half, allIn, Lowest, First, joined, Made}
 
 -- The set of one number.
 has-single : (b : ℕ) → has (2 ^ b) b ≡ 1

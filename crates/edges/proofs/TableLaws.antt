@@ -15,9 +15,9 @@ use Rattle.shape.proofs.GoodParser.{good-goto, good-shift, good-reduce}
 use Rattle.conditions.specs.Tests.{someBelow}
 use Rattle.conditions.specs.Edges.{symbols, shiftOf, edgeTo, isEdge, leads}
 use Rattle.conditions.specs.Conditions.{reduces}
-use Rattle.conditions.proofs.TestLaws.{alike, false-true, and-left, and-right, some-one, some-true}
+use Rattle.conditions.proofs.TestLaws.{alike, and-left, and-right, some-one, some-true}
 use Rattle.conditions.proofs.EdgeLaws.{shift-code}
-use Rattle.edges.specs.Rows.{bitAt, either, PutOne, PutEach}
+use Rattle.edges.specs.Rows.{either, PutOne, PutEach}
 use Rattle.edges.specs.Tables.{reduceOf, present, Sources, Carried, Reducers, Goers}
 use Rattle.edges.proofs.RowLaws.{some-more, some-same, below-other, empty-row}
 

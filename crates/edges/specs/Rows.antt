@@ -1,5 +1,5 @@
--- Rows of sets, for the code of the check (manual, sections 4.4 to 4.6): 128 sets of numbers below 128 in a row of 256 words, set v in the
--- words 2 v and 2 v + 1, its number b in the bit b % 64 of one of them. The definitions of the check do not use this file.
+-- Manual, sections 4.4 to 4.6, for the code: rows of sets. 128 sets of numbers below 128 stand in a row of 256 words, set v in the
+-- words 2 v and 2 v + 1, its number b as bit b % 64 of one of them. The definitions of the check do not use this file.
 use mathlib.Core.Path.{_≡_}
 use mathlib.Core.Bool.{Bool, true, false, _&&_}
 use mathlib.Core.List.{List}

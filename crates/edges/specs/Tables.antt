@@ -1,6 +1,6 @@
--- What the code of the check works out once for a pack (manual, sections 4.4 to 4.6): rows of sets of parse states and symbols.
+-- Manual, sections 4.4 to 4.6, for the code: what is worked out once for a pack, as rows of sets of parse states and of symbols.
 use mathlib.Core.Path.{_≡_}
-use mathlib.Core.Bool.{Bool, true, false, _&&_}
+use mathlib.Core.Bool.{true, false, _&&_}
 use mathlib.Core.List.{List}
 use Prim.Native.Nat.{ℕ, _+_, _/_, _%_, _<_}
 use lib.Dec.{eqb, leb, ltb}

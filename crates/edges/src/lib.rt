@@ -52,11 +52,11 @@ fn edge_to(img: &[u16], s: usize, x: usize) -> usize
     if x < image::terminals(img) {
         return shift_of(image::act(img, s, x));
     }
-    if x < 64 {
+    if x < image::FIRST_NONTERMINAL {
         return 0;
     }
-    if x < 64 + image::nonterminals(img) {
-        return image::goto(img, s, x - 64);
+    if x < image::FIRST_NONTERMINAL + image::nonterminals(img) {
+        return image::goto(img, s, x - image::FIRST_NONTERMINAL);
     }
     0
 }
@@ -69,7 +69,7 @@ fn put_edges(img: &[u16], s: usize, from: &mut [u64; 256], on: &mut [u64; 256])
     requires { ⌜ (length (now from) ≡ 256) × (length (now on) ≡ 256) ⌝ }
     ensures { λ r. ⌜ (PutOne (edgeTo (now (img .entry)) s) s (symbols (now (img .entry))) (now (from .entry)) (now (from .exit))) × (PutEach (edgeTo (now (img .entry)) s) (symbols (now (img .entry))) (now (on .entry)) (now (on .exit))) ⌝ }
 {
-    let n = 64 + image::nonterminals(img);
+    let n = image::FIRST_NONTERMINAL + image::nonterminals(img);
     let mut x: usize = 0;
     while x < n {
         let to = edge_to(img, s, x);

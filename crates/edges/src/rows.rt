@@ -8,6 +8,9 @@ ghost use Rattle.sets.specs.Sets.{member};
 ghost use Rattle.conditions.specs.Tests.{allBelow, implies};
 ghost use Rattle.edges.specs.Rows.{bitAt, Put, Half, allIn, onlyIn, Lowest, First, joined, Made};
 
+// What `first` gives of an empty set.
+pub const NONE: usize = 128;
+
 // The set of one number below 64.
 fn single(b: usize) -> u64
     requires { ⌜ b < 64 ⌝ }
@@ -83,7 +86,7 @@ fn least(word: u64) -> usize
     sets::lowest(word) as usize
 }
 
-// The least number in set v, or 128.
+// The least number in set v, or NONE.
 pub fn first(row: &[u64; 256], v: usize) -> usize
     requires { ⌜ v < 128 ⌝ }
     ensures { λ r. ⌜ First (now (row .entry)) v r ⌝ }

@@ -213,7 +213,7 @@ module _ (img text : List ℕ) (allowance : ℕ) where
     skip-none zero s n = sym here
     skip-none (suc k) s n = simp (skip, isEmpty, ← here, s, eq-eqb _ _ n)
 
-    skip-more : (n : ℕ) → f .spent ≡ false → (f .set ≡ 0 → ⊥) → skip img text allowance (suc n) at ≡ skip img text allowance n (past (f .length) (f .at .due) (f .at))
+    pub skip-more : (n : ℕ) → f .spent ≡ false → (f .set ≡ 0 → ⊥) → skip img text allowance (suc n) at ≡ skip img text allowance n (past (f .length) (f .at .due) (f .at))
     unfolding skip isEmpty
     skip-more k s n = simp (skip, isEmpty, ← here, s, ne-eqb _ _ n)
 

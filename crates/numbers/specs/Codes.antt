@@ -1,4 +1,4 @@
--- Document 01, "Numbers given back": the codes by name, in the table's order, and the limits that they guard.
+-- Manual, section 5.1: the codes by name, in the order of their numbers, and the limits that they guard.
 use Prim.Native.Nat.{ℕ}
 
 -- 0: done.
@@ -57,18 +57,18 @@ stackFull = 12
 abbrev pub allowanceUsedUp : ℕ
 allowanceUsedUp = 13
 
--- "the allowance is 0..4,294,967,295 moves"
+-- The most moves that a caller can allow.
 abbrev pub greatestAllowance : ℕ
 greatestAllowance = 4294967295
 
--- "A text is at most 65,535 bytes": a pack text as well as a query.
+-- The bytes of the longest text, a pack text as well as a query.
 abbrev pub longestText : ℕ
 longestText = 65535
 
--- "Tree room is the whole records that fit, at most 65,535."
+-- The most records that a tree has room for, however long it is.
 abbrev pub mostRecords : ℕ
 mostRecords = 65535
 
--- The stack "holds at most 512 states".
+-- The most states that the stack holds.
 abbrev pub mostStates : ℕ
 mostStates = 512

@@ -1,4 +1,7 @@
-// Document 01, "Numbers given back": the codes by name, in the table's order, and the limits that they guard.
+// The codes that are given back, by name and in the order of their numbers, the limits that they guard, and how words are handed to a
+// caller.
+ghost use lib.ListN.{length};
+ghost use Rattle.numbers.specs.Front.{Delivers, deliver};
 
 pub const DONE: u8 = 0;
 
@@ -39,8 +42,30 @@ pub const MOST_RECORDS: usize = 65535;
 
 pub const MOST_STATES: usize = 512;
 
-// What is given back by a function that fills a buffer: the code, and the number that the table has for it.
+// What is given back by a function that fills a buffer: the code, and the number that goes with it.
 pub struct Answer {
     pub code: u8,
     pub number: usize,
+}
+
+// Puts words at the front of the buffer where there is room for them, and leaves it untouched where there is not.
+pub fn deliver(words: &[u16], buffer: &mut [u16]) -> Answer
+    ensures { λ r. ⌜ Delivers (deliver (now (words .entry)) (length (now (buffer .entry)))) (now (buffer .entry)) (now (buffer .exit)) r ⌝ }
+{
+    let size = words.len();
+    if buffer.len() < size {
+        return Answer {
+            code: ROOM_TOO_SMALL,
+            number: size,
+        };
+    }
+    let mut i: usize = 0;
+    while i < size {
+        buffer[i] = words[i];
+        i += 1;
+    }
+    Answer {
+        code: DONE,
+        number: i,
+    }
 }

@@ -1,6 +1,6 @@
 -- Manual, sections 1.1 and 1.3 to 1.5: the image, where each table stands in it, and each number in it by name.
 -- An image is the list of its 16-bit words. What stands where in it is known in this file alone.
-use mathlib.Core.Bool.{Bool, true, false}
+use mathlib.Core.Bool.{true, false}
 use mathlib.Core.List.{List, [], _∷_}
 use Prim.Native.Nat.{ℕ, zero, suc, _+_, _*_, _-_, _/_, _%_, _^_}
 use lib.Dec.{eqb, leb}

@@ -1,27 +1,76 @@
-// Each number of the image by its name, and its place. These are inner functions: they ask for an image that is laid out as its sizes
-// say.
-use super::DOM_START;
-use super::GROUP_WORDS;
-use super::HEAD_WORDS;
-use super::LAYOUT_AT;
-use super::MOST_CLASSES;
-use super::MOST_GROUPS;
-use super::MOST_NONTERMINALS;
-use super::MOST_PARSE_STATES;
-use super::MOST_PRODUCTIONS;
-use super::MOST_RANGES;
-use super::MOST_SCAN_STATES;
-use super::MOST_TERMINALS;
-use super::PRODUCTION_WORDS;
-use super::RANGE_WORDS;
-use super::SCAN_WORDS;
-use super::SET_WORDS;
+// Each number of the image by its name, where it stands, and how many words a thing takes. The functions are inner ones: they ask for
+// an image that is laid out as its sizes say.
 ghost use mathlib.Core.Path.{_≡_};
-ghost use Prim.Native.Nat.{ℕ, _+_, _*_, _<_, _≤_};
+ghost use Prim.Native.Nat.{_+_, _*_, _<_, _≤_};
 ghost use lib.ListN.{length};
 ghost use Rattle.pack.specs.Image.{word, setWords, headWords, mostSymbols, productionWords, rangeWords, scanWords, groupWords, setAt, terminals, nonterminals, productions, states, scanStates, classes, ranges, groups, mostTerminals, leastSize, greatestSize, prodStart, actStart, gotoStart, classStart, moveStart, scanStart, groupStart, needed, domAt, prodAt, lenAt, symbolAt, actAt, gotoAt, rangeAt, hiAt, rangeClassAt, moveAt, scanAt, rejAt, possAt, groupAt, chosenAt, layout, dom, lhs, len, symbol, act, goto, move, lo, hi, rangeClass, acc, rej, poss, groupSet, chosen, validSet};
 ghost use Rattle.pack.specs.Laid.{Sized, Laid};
 ghost use Rattle.sets.specs.Sets.{single};
+
+// How many words a thing takes in the image.
+pub const SET_WORDS: usize = 4;
+
+pub const SIZE_WORDS: usize = 8;
+
+pub const HEAD_WORDS: usize = 1 + SIZE_WORDS;
+
+pub const MOST_SYMBOLS: usize = 14;
+
+pub const PRODUCTION_WORDS: usize = 2 + MOST_SYMBOLS;
+
+pub const RANGE_WORDS: usize = 3;
+
+pub const SCAN_WORDS: usize = 3 * SET_WORDS;
+
+pub const GROUP_WORDS: usize = SET_WORDS + 1;
+
+// The most that each size may be.
+pub const MOST_TERMINALS: usize = 64;
+
+pub const MOST_NONTERMINALS: usize = 32;
+
+pub const MOST_PRODUCTIONS: usize = 128;
+
+pub const MOST_PARSE_STATES: usize = 128;
+
+pub const MOST_SCAN_STATES: usize = 128;
+
+pub const MOST_CLASSES: usize = 32;
+
+pub const MOST_RANGES: usize = 64;
+
+pub const MOST_GROUPS: usize = 32;
+
+// The least and the most of the sizes, by their word.
+const LEAST_SIZES: [usize; HEAD_WORDS] = [0, 1, 1, 1, 1, 1, 1, 0, 0];
+
+const GREATEST_SIZES: [usize; HEAD_WORDS] = [
+    0,
+    MOST_TERMINALS,
+    MOST_NONTERMINALS,
+    MOST_PRODUCTIONS,
+    MOST_PARSE_STATES,
+    MOST_SCAN_STATES,
+    MOST_CLASSES,
+    MOST_RANGES,
+    MOST_GROUPS,
+];
+
+// The words of the largest image.
+pub const LARGEST_IMAGE: usize = 20589;
+
+// Where the layout set stands, and where the table of what outranks a terminal begins.
+pub const LAYOUT_AT: usize = HEAD_WORDS;
+
+pub const DOM_START: usize = LAYOUT_AT + SET_WORDS;
+
+// The symbol number of nonterminal 0.
+pub const FIRST_NONTERMINAL: usize = 64;
+
+// How many bytes there are, and the greatest.
+pub const BYTE_COUNT: usize = 256;
+
+pub const GREATEST_BYTE: usize = BYTE_COUNT - 1;
 
 fn wide(x: u16) -> usize
     ensures { λ r. ⌜ r ≡ x ⌝ }
@@ -53,20 +102,6 @@ pub fn set_at(img: &[u16], i: usize) -> u64
 }
 
 // The least and the most of the size at word i.
-const LEAST_SIZES: [usize; HEAD_WORDS] = [0, 1, 1, 1, 1, 1, 1, 0, 0];
-
-const GREATEST_SIZES: [usize; HEAD_WORDS] = [
-    0,
-    MOST_TERMINALS,
-    MOST_NONTERMINALS,
-    MOST_PRODUCTIONS,
-    MOST_PARSE_STATES,
-    MOST_SCAN_STATES,
-    MOST_CLASSES,
-    MOST_RANGES,
-    MOST_GROUPS,
-];
-
 pub fn least_size(i: usize) -> usize
     requires { ⌜ i < headWords ⌝ }
     ensures { λ r. ⌜ r ≡ leastSize i ⌝ }

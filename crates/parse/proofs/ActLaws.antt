@@ -9,7 +9,7 @@ use lib.ListN.{length, getD, take, drop, set, length-set, length-append, length-
 use lib.Seq.{sets-eq, set-split, length-take-le, take-at, drop-at, drop-drop, getD-drop, getD-set-same, getD-set-other}
 use native.Mathlib.Nat.{add-zero}
 use lib.Dec.{eqb, leb, ltb}
-use borrow.Author.Tests.{eq-eqb, ne-eqb, le-leb, lt-leb, lt-ltb, le-ltb, eqb-true, eqb-false}
+use borrow.Author.Tests.{eq-eqb, ne-eqb, le-leb, lt-leb, lt-ltb, le-ltb, leb-true, leb-false, eqb-true, eqb-false}
 use Rattle.pack.specs.declared.Action.{Action}
 use Rattle.pack.specs.declared.Action.the-variants.{Error, Accept, Shift, Reduce}
 use Rattle.numbers.specs.Codes.{treeFull, stackFull, stuck}
@@ -19,7 +19,7 @@ use Rattle.parse.specs.declared.act.Position.{Position}
 use Rattle.parse.specs.declared.act.Turned.{Turned}
 use Rattle.look.specs.Look.{past, settled}
 use Rattle.parse.specs.Parse.{Standing, Ending, Step, ends, goes, ending, top, wrote, shiftTo, reduceBy, accept, perform}
-use Rattle.parse.specs.Inner.{Stacked, Roomy, Kept, Turn, stops, turns, standing, bounded, told, put4}
+use Rattle.parse.specs.Inner.{Stacked, Roomy, Kept, Turn, stops, turns, standing, full, bounded, told, put4}
 
 -- Four words put into the tree.
 module _ (t : List ℕ) (n a b c d : ℕ) (h : n + 4 ≤ length t) where
@@ -59,6 +59,34 @@ module _ (here next : Standing) where
   unfolding bounded
   goes-on zero n h = absurd (n refl)
   goes-on (suc left) n h = simp (bounded, le-leb _ _ h)
+
+-- A record and a state that there is room for, or not.
+module _ (room records height : ℕ) {code : ℕ} (e : code ≡ full room records height) where
+  pub not-full : code ≡ 0 → (records < room) × (height < 512)
+  unfolding full
+  not-full z = go (leb room records) refl (leb 512 height) refl
+    where
+      go : (x : Bool) → leb room records ≡ x → (y : Bool) → leb 512 height ≡ y → (records < room) × (height < 512)
+      go false f false g = (leb-false _ _ f, leb-false _ _ g)
+      go true f y g = let q : code ≡ 11 = e ∙ simp (full, f) in absurd (omega arith)
+      go false f true g = let q : code ≡ 12 = e ∙ simp (full, f, g) in absurd (omega arith)
+
+  pub full-stops : (code ≡ 0 → ⊥) → (here next : Standing) → length (next .stack) ≡ height + 1 → bounded (room - records) (goes here next) ≡ stops (ending code 0 0 here)
+  unfolding full
+  full-stops n here next h = go (leb room records) refl (leb 512 height) refl
+    where
+      go : (x : Bool) → leb room records ≡ x → (y : Bool) → leb 512 height ≡ y → bounded (room - records) (goes here next) ≡ stops (ending code 0 0 here)
+      go true f y g =
+          let q : code ≡ 11 = e ∙ simp (full, f) in
+          rw q (no-room here next (room - records) (omega (arith, leb-true room records f)))
+      go false f true g =
+          let q : code ≡ 12 = e ∙ simp (full, f, g) in
+          let l = leb-false room records f in
+          rw q (too-high here next (room - records) (λ z. omega arith) (omega (arith, h, leb-true 512 height g)))
+      go false f false g = absurd (n (e ∙ simp (full, f, g)))
+
+pub room-for : (room records height : ℕ) (tree : List ℕ) {code : ℕ} → code ≡ full room records height → code ≡ 0 → Roomy room tree records → records * 4 + 4 ≤ length tree
+room-for room records height tree e z q = omega (arith, not-full room records height e z .0, q .there)
 
 pub bounded-ends : (left : ℕ) (e : Ending) → bounded left (ends e) ≡ stops e
 unfolding bounded
@@ -152,16 +180,13 @@ module _ (img stack tree : List ℕ) (room : ℕ) (from : Position) (k : Stacked
 
   -- Shift.
   module _ (s size terminal : ℕ) where
-    next-held : length (s ∷ drop (512 - from .height) stack) ≡ suc (from .height)
-    next-held = ap suc (held stack (k .size) (from .height) (k .most))
+    next-held : length (s ∷ drop (512 - from .height) stack) ≡ from .height + 1
+    next-held = omega (arith, held stack (k .size) (from .height) (k .most))
 
-    pub shift-no-room : {r : Turned} → room ≤ from .records → r ≡ record { ends = true; code = 11; length = 0; terminal = 0; to = from }
+    pub shift-full : {r : Turned} {code : ℕ} → code ≡ full room (from .records) (from .height) → (code ≡ 0 → ⊥)
+        → r ≡ record { ends = true; code = code; length = 0; terminal = 0; to = from }
         → told stack tree r ≡ bounded (room - from .records) (shiftTo s size terminal (standing stack tree from))
-    shift-no-room l e = told-ends e ∙ sym (no-room _ _ (room - from .records) (omega arith))
-
-    pub shift-full : {r : Turned} → from .records < room → 512 ≤ from .height → r ≡ record { ends = true; code = 12; length = 0; terminal = 0; to = from }
-        → told stack tree r ≡ bounded (room - from .records) (shiftTo s size terminal (standing stack tree from))
-    shift-full m l e = told-ends e ∙ sym (too-high _ _ (room - from .records) (λ z. omega arith) (omega (arith, next-held)))
+    shift-full f n e = told-ends e ∙ sym (full-stops room (from .records) (from .height) f n _ _ next-held)
 
     pub shift-goes : {a b c d v : ℕ} {stack′ tree′ : List ℕ} {r : Turned} → from .records < room → from .height < 512 → v ≡ s → s < states img
         → a ≡ terminal → b ≡ from .at .place → c ≡ size → d ≡ getD stack (512 - from .height) 0
@@ -231,13 +256,10 @@ module _ (img stack tree : List ℕ) (room : ℕ) (from : Position) (k : Stacked
             rw (popped stack (k .size) (from .height) (k .most) (from .height - n) n z)
             (omega (arith, held stack (k .size) (from .height - n) (omega (arith, k .most))))
 
-        pub reduce-no-room : {r : Turned} → room ≤ from .records → r ≡ record { ends = true; code = 11; length = 0; terminal = 0; to = from }
+        pub reduce-full : {r : Turned} {code : ℕ} → code ≡ full room (from .records) (from .height - n) → (code ≡ 0 → ⊥)
+            → r ≡ record { ends = true; code = code; length = 0; terminal = 0; to = from }
             → told stack tree r ≡ bounded (room - from .records) (reduceBy img p (standing stack tree from))
-        reduce-no-room m e = told-ends e ∙ sym (rw reduces (no-room _ _ (room - from .records) (omega arith)))
-
-        pub reduce-full : {r : Turned} → from .records < room → 512 ≤ from .height - n → r ≡ record { ends = true; code = 12; length = 0; terminal = 0; to = from }
-            → told stack tree r ≡ bounded (room - from .records) (reduceBy img p (standing stack tree from))
-        reduce-full m f e = told-ends e ∙ sym (rw reduces (too-high _ _ (room - from .records) (λ z. omega arith) (omega (arith, next-high))))
+        reduce-full f m e = told-ends e ∙ sym (rw reduces (full-stops room (from .records) (from .height - n) f m _ _ next-high))
 
         pub reduce-goes : {a b c v : ℕ} {stack′ tree′ : List ℕ} {r : Turned} → from .records < room → from .height - n < 512 → v ≡ to - 1 → to ≤ states img
             → a ≡ 64 + lh → b ≡ p → c ≡ n

@@ -15,7 +15,7 @@ use Rattle.shape.specs.declared.Verdict.the-variants.{Good, Wrong}
 use Rattle.numbers.specs.Codes.{queryTooLong, wrongShape}
 use Rattle.pack.specs.Image.{terminals, act, actionOf}
 use Rattle.pack.specs.Laid.{Laid}
-use Rattle.shape.specs.Shape.{isWrong, placeOf, shape}
+use Rattle.shape.specs.Shape.{isWrong, verdictPlace, shape}
 use Rattle.shape.proofs.Laws.{is-good, is-wrong}
 use Rattle.parse.specs.declared.Parsed.{Parsed}
 use Rattle.look.specs.declared.Spot.{Spot}
@@ -187,11 +187,11 @@ module _ (img text tree : List ℕ) (allowance : ℕ) where
   parse-long h = simp (parse, lt-ltb _ _ h)
 
   module _ (h : length text ≤ 65535) {v : Verdict} (e : v ≡ shape img) where
-    pub parse-wrong : {p : ℕ} → isWrong v ≡ true → p ≡ placeOf v → before wrongShape p ≡ parse img text tree allowance
-    unfolding parse placeOf
+    pub parse-wrong : {p : ℕ} → isWrong v ≡ true → p ≡ verdictPlace v → before wrongShape p ≡ parse img text tree allowance
+    unfolding parse verdictPlace
     parse-wrong w ep =
         let q = is-wrong v w in
-        simp (parse, le-ltb _ _ h, sym e ∙ q .1) (ap (before wrongShape) (ep ∙ ap placeOf (q .1)))
+        simp (parse, le-ltb _ _ h, sym e ∙ q .1) (ap (before wrongShape) (ep ∙ ap verdictPlace (q .1)))
 
     pub parse-runs : isWrong v ≡ false → run img (look img text allowance) (roomOf tree) start ≡ parse img text tree allowance
     unfolding parse

@@ -5,7 +5,7 @@ use mathlib.Core.List.{List, _∷_, _++_}
 use Prim.Native.Nat.{ℕ, zero, suc, _+_, _-_, _*_, _<_, _≤_}
 use lib.Dec.{leb}
 use lib.ListN.{length, getD, take, drop}
-use Rattle.numbers.specs.Codes.{treeFull, stackFull, mostStates, mostRecords}
+use Rattle.numbers.specs.Codes.{done, treeFull, stackFull, mostStates, mostRecords}
 use Rattle.pack.specs.Image.{states}
 use Rattle.look.specs.Inner.{Known, Within}
 use Rattle.look.specs.Look.{look}
@@ -40,6 +40,11 @@ unfoldable pub bounded : ℕ → Step → Turn
 bounded left (ends e) = stops e
 bounded zero (goes here next) = stops (ending treeFull 0 0 here)
 bounded (suc left) (goes here next) = elim (leb (length (next .stack)) mostStates) [ false ↦ stops (ending stackFull 0 0 here) | true ↦ turns next ]
+
+-- The same of a record to be written and a state to be pushed onto a stack of this height: done where there is room for both.
+unfoldable pub full : ℕ → ℕ → ℕ → ℕ
+full room records height =
+    elim (leb room records) [ true ↦ treeFull | false ↦ elim (leb mostStates height) [ true ↦ stackFull | false ↦ done ] ]
 
 -- What the code says of it, with the stack and the tree that it leaves.
 unfoldable pub told : List ℕ → List ℕ → Turned → Turn

@@ -10,7 +10,7 @@ ghost use Rattle.shape.specs.declared.Verdict.the-variants.{Good};
 ghost use Rattle.pack.specs.Image.{terminals, productions, states, act, actionOf};
 ghost use Rattle.pack.specs.Laid.{Laid};
 ghost use Rattle.shape.specs.Shape.{shape};
-ghost use Rattle.parse.specs.Inner.{Stacked, Roomy, Kept, standing, bounded, told, put4};
+ghost use Rattle.parse.specs.Inner.{Stacked, Roomy, Kept, standing, full, bounded, told, put4};
 ghost use Rattle.parse.specs.Parse.{shiftTo, reduceBy, accept, perform, top};
 
 // The words of a record.
@@ -84,6 +84,19 @@ pub fn wide(x: u16) -> usize
     x as usize
 }
 
+// Whether there is room for one record more, and for one state more on a stack of this height: done, or the code.
+fn full(room: usize, records: usize, height: usize) -> u8
+    ensures { λ r. ⌜ r ≡ full room records height ⌝ }
+{
+    if room <= records {
+        return numbers::TREE_FULL;
+    }
+    if numbers::MOST_STATES <= height {
+        return numbers::STACK_FULL;
+    }
+    numbers::DONE
+}
+
 // Shift: write a leaf, push.
 fn shift(
     img: &[u16],
@@ -105,11 +118,9 @@ fn shift(
 {
     let h = from.height;
     let n = from.records;
-    if room <= n {
-        return ending(numbers::TREE_FULL, 0, 0, from);
-    }
-    if numbers::MOST_STATES <= h {
-        return ending(numbers::STACK_FULL, 0, 0, from);
+    let code = full(room, n, h);
+    if code != numbers::DONE {
+        return ending(code, 0, 0, from);
     }
     let top = stack[numbers::MOST_STATES - h];
     put(
@@ -161,16 +172,14 @@ fn reduce(
     if to == 0 {
         return ending(numbers::STUCK, 0, 0, from);
     }
-    if room <= n {
-        return ending(numbers::TREE_FULL, 0, 0, from);
-    }
-    if numbers::MOST_STATES <= h {
-        return ending(numbers::STACK_FULL, 0, 0, from);
+    let code = full(room, n, h);
+    if code != numbers::DONE {
+        return ending(code, 0, 0, from);
     }
     put(
         tree,
         n * RECORD_WORDS,
-        narrow(pack::FIRST_NONTERMINAL + lhs),
+        narrow(pack::image::FIRST_NONTERMINAL + lhs),
         narrow(p),
         narrow(len),
         uncovered,

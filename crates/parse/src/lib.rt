@@ -43,7 +43,7 @@ pub fn parse(img: &[u16], text: &[u8], tree: &mut [u16], allowance: u32) -> Pars
     }
     let v = shape::shape(img);
     if shape::is_wrong(v) {
-        return refusal(numbers::WRONG_SHAPE, shape::place_of(v));
+        return refusal(numbers::WRONG_SHAPE, shape::verdict_place(v));
     }
     run::run(img, text, tree, allowance)
 }
@@ -55,8 +55,8 @@ pub struct Part {
 }
 
 // The part of the text that a leaf's record stands for, or the empty part at its front where the record is no leaf of this text.
-pub fn leaf_part(text: &[u8], terminal: u16, start: u16, length: u16, state: u16) -> Part
-    ensures { λ r. ⌜ r ≡ leafPart (now (text .entry)) terminal start length state ⌝ }
+pub fn leaf_part(text: &[u8], terminal: u16, start: u16, size: u16, state: u16) -> Part
+    ensures { λ r. ⌜ r ≡ leafPart (now (text .entry)) terminal start size state ⌝ }
     ensures { λ r. ⌜ r .start + r .length ≤ length (now (text .entry)) ⌝ }
 {
     let none = Part {
@@ -66,11 +66,11 @@ pub fn leaf_part(text: &[u8], terminal: u16, start: u16, length: u16, state: u16
     if terminal < 1 {
         return none;
     }
-    if pack::FIRST_NONTERMINAL <= wide(terminal) {
+    if pack::image::FIRST_NONTERMINAL <= wide(terminal) {
         return none;
     }
     let from = wide(start);
-    let bytes = wide(length);
+    let bytes = wide(size);
     if text.len() < from + bytes {
         return none;
     }
@@ -81,10 +81,10 @@ pub fn leaf_part(text: &[u8], terminal: u16, start: u16, length: u16, state: u16
 }
 
 // A leaf's bytes: that part of the lent text itself.
-pub fn leaf(text: &[u8], terminal: u16, start: u16, length: u16, state: u16) -> &[u8]
-    ensures { λ r. ⌜ now r ≡ leafBytes (now (text .entry)) terminal start length state ⌝ }
+pub fn leaf(text: &[u8], terminal: u16, start: u16, size: u16, state: u16) -> &[u8]
+    ensures { λ r. ⌜ now r ≡ leafBytes (now (text .entry)) terminal start size state ⌝ }
 {
-    let p = leaf_part(text, terminal, start, length, state);
+    let p = leaf_part(text, terminal, start, size, state);
     let a = p.start;
     let e = a + p.length;
     &text[a..e]

@@ -7,7 +7,8 @@ use lib.Count.{trailingZeros}
 use lib.ListN.{length}
 use Rattle.sets.specs.Sets.{has, member, lacks, isEmpty, subset, countBelow, several}
 use Rattle.pack.specs.Image.{setAt, leastSize, greatestSize, layout, dom, lhs, len, symbol, act, goto, move, actionOf, lo, hi, rangeClass, acc, rej, poss, groupSet, chosen, classIn, validFrom}
-use Rattle.shape.specs.Shape.{rule, andThen, each, sizeRule, lengthRule, fits, layoutRule, domRight, domRule, isSymbol, symbolRule, prodRule, actRight, actRule, cellRule, gotoRules, moveRules, abovePrevious, rangeRule, emptyAtStart, scanRule, differs, groupRule, parserRules, scannerRules, headRules, shape}
+use Rattle.rules.specs.Rules.{fits, domRight, isSymbol, actRight, abovePrevious, emptyAtStart, differs}
+use Rattle.shape.specs.Shape.{rule, andThen, each, sizeRule, lengthRule, layoutRule, domRule, symbolRule, prodRule, actRule, cellRule, gotoRules, moveRules, rangeRule, scanRule, groupRule, parserRules, scannerRules, headRules, shape}
 use Rattle.scan.specs.Scan.{remember, moveOn, onward, scanFrom}
 use Rattle.scan.specs.Token.{chosenIn, terminalOf}
 use Rattle.look.specs.Look.{seek, rescan, choose, token, skip, look}
@@ -16,9 +17,10 @@ use Rattle.conditions.specs.Tests.{allBelow, someBelow, implies, same as alike}
 use Rattle.conditions.specs.Edges.{shiftOf, edgeTo, isEdge, leads, enters, onlyOn, reached}
 use Rattle.conditions.specs.Conditions.{outranked, k1, within, k2, isGroup, settled, k3, k4, reduces, steps, ends, k5, fromStart, k6}
 use Rattle.conditions.specs.Check.{number, firsts, seconds, test, inRow, inRows, find, report, firstFailing, checkAll, check}
-use Rattle.text.specs.Fields.{isDigit, digitsFrom, numberIn, readNumber, hexDigit, hexFrom, readSet, readField, wordsOf, decimal, hexOf, hexWord, fieldText}
+use Rattle.text.specs.Decimal.{isDigit, digitsFrom, numberIn, readNumber, decimalIn, decimal}
+use Rattle.text.specs.Fields.{hexDigit, hexFrom, readSet, readField, wordsOf, hexOf, hexWord, fieldText}
 use Rattle.text.specs.Form.{after, packLine, sizes, tablesOf, rowWidth}
-use Rattle.text.specs.Reader.{thenRead, expect, fieldThen, fields, zeros, symbolsOf, readRow, thenLines, asLine, readLines, readTables, limited, readHead, ended, readAll, Lines, all}
+use Rattle.text.specs.Reader.{thenRead, expect, fieldThen, readFields, zeros, readSymbols, readRow, thenLines, asLine, readLines, readTables, limited, readHead, ended, readAll, Lines, all}
 use Rattle.text.specs.Writer.{fieldsText, rowText, linesText, tablesText, textOf}
 use Rattle.promise.specs.SmallPack.{small, small11, small12, small12too, joined, smallText}
 use Rattle.promise.specs.Marked.{cases, same, ofParse, ofCheck, right, allRight}
@@ -35,9 +37,9 @@ words = refl
 
 -- The writer's text of the image is the pack's text, and reading it gives the image.
 pub written : textOf small ≡ smallText
-unfolding isDigit digitsFrom numberIn readNumber hexDigit hexFrom readSet readField wordsOf decimal hexOf hexWord fieldText after packLine sizes tablesOf rowWidth fieldsText rowText linesText tablesText textOf small joined smallText
+unfolding isDigit digitsFrom numberIn readNumber hexDigit hexFrom readSet readField wordsOf decimalIn decimal hexOf hexWord fieldText after packLine sizes tablesOf rowWidth fieldsText rowText linesText tablesText textOf small joined smallText
 written = refl
 
 pub read-back : readAll smallText ≡ all small []
-unfolding setAt leastSize greatestSize rule each sizeRule isDigit digitsFrom numberIn readNumber hexDigit hexFrom readSet readField wordsOf decimal hexOf hexWord fieldText after packLine sizes tablesOf rowWidth thenRead expect fieldThen fields zeros symbolsOf readRow thenLines asLine readLines readTables limited readHead ended readAll small joined smallText
+unfolding setAt leastSize greatestSize rule each sizeRule isDigit digitsFrom numberIn readNumber hexDigit hexFrom readSet readField wordsOf decimalIn decimal hexOf hexWord fieldText after packLine sizes tablesOf rowWidth thenRead expect fieldThen readFields zeros readSymbols readRow thenLines asLine readLines readTables limited readHead ended readAll small joined smallText
 read-back = refl

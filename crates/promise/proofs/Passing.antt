@@ -2,7 +2,8 @@
 use mathlib.Core.Path.{_≡_, refl}
 use Rattle.sets.specs.Sets.{has, member, lacks, isEmpty, subset, countBelow, several}
 use Rattle.pack.specs.Image.{setAt, leastSize, greatestSize, layout, dom, lhs, len, symbol, act, goto, move, actionOf, lo, hi, rangeClass, acc, rej, poss, groupSet, chosen, classIn, validFrom}
-use Rattle.shape.specs.Shape.{rule, andThen, each, sizeRule, lengthRule, fits, layoutRule, domRight, domRule, isSymbol, symbolRule, prodRule, actRight, actRule, cellRule, gotoRules, moveRules, abovePrevious, rangeRule, emptyAtStart, scanRule, differs, groupRule, parserRules, scannerRules, headRules, shape}
+use Rattle.rules.specs.Rules.{fits, domRight, isSymbol, actRight, abovePrevious, emptyAtStart, differs}
+use Rattle.shape.specs.Shape.{rule, andThen, each, sizeRule, lengthRule, layoutRule, domRule, symbolRule, prodRule, actRule, cellRule, gotoRules, moveRules, rangeRule, scanRule, groupRule, parserRules, scannerRules, headRules, shape}
 use Rattle.conditions.specs.Tests.{allBelow, someBelow, implies, same}
 use Rattle.conditions.specs.Edges.{shiftOf, edgeTo, isEdge, leads, enters, onlyOn, reached}
 use Rattle.conditions.specs.Conditions.{Passes, outranked, k1, within, k2, isGroup, settled, k3, k4, reduces, steps, ends, k5, fromStart, k6}

@@ -11,7 +11,7 @@ fn print(name: &[u8], n: u64) {
 // The text of the image again.
 fn back(text: &[u8], img: &[u16]) {
     let mut room = [0u8; 65536];
-    let a = text::write(img, &mut room);
+    let a = writer::write(img, &mut room);
     print(b"words=", img.len() as u64);
     print(b"bytes=", a.number as u64);
     if check::same(text, parts::bytes(&room, a.number)) {
@@ -23,7 +23,7 @@ fn back(text: &[u8], img: &[u16]) {
 
 fn repack(text: &[u8]) {
     let mut img = [0u16; 20589];
-    let a = text::read(text, &mut img);
+    let a = reader::read(text, &mut img);
     print(b"code=", a.code as u64);
     if a.code == 0 {
         back(text, parts::words(&img, a.number));

@@ -15,7 +15,7 @@ use Rattle.sets.specs.Sets.{isEmpty}
 use Rattle.shape.specs.declared.Verdict.{Verdict}
 use Rattle.numbers.specs.Codes.{queryTooLong, wrongShape}
 use Rattle.pack.specs.Image.{classOf, move, acc, rej, poss, allButEnd}
-use Rattle.shape.specs.Shape.{isWrong, placeOf, shape}
+use Rattle.shape.specs.Shape.{isWrong, verdictPlace, shape}
 use Rattle.shape.proofs.Laws.{is-good, is-wrong}
 use Rattle.scan.specs.declared.Remembered.{Remembered}
 use Rattle.scan.specs.declared.Stop.{Stop}
@@ -94,11 +94,11 @@ module _ (img text : List ℕ) (start set allowance : ℕ) where
   alone-long h = simp (scanAlone, lt-ltb _ _ h)
 
   module _ (h : length text ≤ 65535) {v : Verdict} (e : v ≡ shape img) where
-    pub alone-wrong : {p : ℕ} → isWrong v ≡ true → p ≡ placeOf v → refused wrongShape p ≡ scanAlone img text start set allowance
-    unfolding scanAlone placeOf
+    pub alone-wrong : {p : ℕ} → isWrong v ≡ true → p ≡ verdictPlace v → refused wrongShape p ≡ scanAlone img text start set allowance
+    unfolding scanAlone verdictPlace
     alone-wrong w ep =
         let q = is-wrong v w in
-        simp (scanAlone, le-ltb _ _ h, sym e ∙ q .1) (ap (refused wrongShape) (ep ∙ ap placeOf (q .1)))
+        simp (scanAlone, le-ltb _ _ h, sym e ∙ q .1) (ap (refused wrongShape) (ep ∙ ap verdictPlace (q .1)))
 
     pub alone-scan : {p t k : ℕ} {rest : List ℕ} {stop : Stop} → isWrong v ≡ false → p ≡ min start (length text) → t ≡ allButEnd img → rest ≡ drop p text
         → stop ≡ scan img (bitAnd set t) allowance rest → k ≡ stopCode (stop .spent)

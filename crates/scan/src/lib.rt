@@ -152,7 +152,7 @@ pub fn scan(img: &[u16], text: &[u8], start: usize, set: u64, allowance: u32) ->
     }
     let v = shape::shape(img);
     if shape::is_wrong(v) {
-        return refusal(numbers::WRONG_SHAPE, shape::place_of(v));
+        return refusal(numbers::WRONG_SHAPE, shape::verdict_place(v));
     }
     let place = within(start, text.len());
     let row = classes::class_row(img);

@@ -23,6 +23,7 @@ fn outranked(img: &[u16], m: u64, t: usize) -> bool
     false
 }
 
+// Whether both hold, or neither.
 fn agree(a: bool, b: bool) -> bool
     ensures { λ r. ⌜ r ≡ same a b ⌝ }
 {
@@ -35,6 +36,7 @@ fn agree(a: bool, b: bool) -> bool
     true
 }
 
+// K1 of scan state q.
 fn k1(img: &[u16], q: usize) -> bool
     requires { ⌜ Laid (now img) ⌝ }
     requires { ⌜ q < scanStates (now img) ⌝ }
@@ -54,6 +56,7 @@ fn k1(img: &[u16], q: usize) -> bool
     true
 }
 
+// The first scan state at which K1 fails.
 pub fn find_k1(img: &[u16]) -> Finding
     requires { ⌜ Laid (now img) ⌝ }
     ensures { λ r. ⌜ r ≡ find c1 (now (img .entry)) ⌝ }
@@ -82,6 +85,7 @@ fn within(img: &[u16], q: usize, code: usize) -> bool
     sets::subset(image::poss(img, code - 1), image::poss(img, q))
 }
 
+// K2 of scan state q.
 fn k2(img: &[u16], q: usize) -> bool
     requires { ⌜ Laid (now img) ⌝ }
     requires { ⌜ shape (now img) ≡ Good ⌝ }
@@ -104,6 +108,7 @@ fn k2(img: &[u16], q: usize) -> bool
     false
 }
 
+// The first scan state at which K2 fails.
 pub fn find_k2(img: &[u16]) -> Finding
     requires { ⌜ Laid (now img) ⌝ }
     requires { ⌜ shape (now img) ≡ Good ⌝ }
@@ -157,7 +162,7 @@ pub struct Pair {
     pub q: usize,
 }
 
-// K3: walks parse states s, inside it scan states q, and stops at the first pair that has no group.
+// Walks parse states s, inside it scan states q, and stops at the first pair at which K3 fails.
 fn first_pair(img: &[u16]) -> Pair
     requires { ⌜ Laid (now img) ⌝ }
     ensures { λ r. ⌜ told (r .found) (r .s) (r .q) ≡ find c3 (now (img .entry)) ⌝ }
@@ -183,6 +188,7 @@ fn first_pair(img: &[u16]) -> Pair
     Pair { found, s, q }
 }
 
+// The first parse state and scan state at which K3 fails.
 pub fn find_k3(img: &[u16]) -> Finding
     requires { ⌜ Laid (now img) ⌝ }
     ensures { λ r. ⌜ r ≡ find c3 (now (img .entry)) ⌝ }

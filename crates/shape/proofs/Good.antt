@@ -1,5 +1,5 @@
 -- What a pack of good shape gives: each fact that the layers above lean on, by its name. Assumes nothing.
-use mathlib.Core.Path.{_≡_, refl, sym, _∙_}
+use mathlib.Core.Path.{_≡_, refl}
 use mathlib.Core.Bool.{Bool, true, false}
 use mathlib.Core.List.{List}
 use Prim.Native.Nat.{ℕ, zero, suc, _+_, _-_, _<_, _≤_, _^_}
@@ -7,10 +7,10 @@ use native.Mathlib.Omega.{arith}
 use lib.Dec.{eqb, leb}
 use borrow.Author.Tests.{ne-eqb, leb-true, ltb-true, eqb-true}
 use Rattle.sets.specs.Sets.{has, lacks, isEmpty, meet}
-use Rattle.shape.specs.declared.Verdict.{Verdict}
-use Rattle.shape.specs.declared.Verdict.the-variants.{Good, Wrong}
-use Rattle.pack.specs.Image.{terminals, nonterminals, states, scanStates, classes, ranges, layout, goto, move, lo, hi, rangeClass, acc, rej, poss, classIn, classOf, needed}
-use Rattle.shape.specs.Shape.{each, headRules, parserRules, scannerRules, fits, layoutRule, cellRule, gotoRules, moveRules, abovePrevious, rangeRule, emptyAtStart, scanRule, shape}
+use Rattle.shape.specs.declared.Verdict.the-variants.{Good}
+use Rattle.pack.specs.Image.{terminals, scanStates, classes, ranges, largestImage, greatestByte, layout, move, lo, hi, rangeClass, acc, rej, poss, classIn, classOf, needed}
+use Rattle.shape.specs.Shape.{each, headRules, parserRules, scannerRules, layoutRule, cellRule, moveRules, rangeRule, scanRule, shape}
+use Rattle.rules.specs.Rules.{fits, abovePrevious, emptyAtStart}
 use Rattle.pack.specs.Laid.{Sized, Laid}
 use Rattle.shape.proofs.Laws.{both, rule-good, and-then-good, each-at, head-laid}
 
@@ -47,16 +47,16 @@ module _ (img : List ℕ) (good : shape img ≡ Good) where
       ltb-true _ _ (rule-good _ _ (and-then-good _ _ (b .1) .1))
 
   -- Each range ends where it begins or later, within the bytes, and above the one before it.
-  range-ends : (r : ℕ) → r < ranges img → (leb (lo img r) (hi img r) ≡ true) × (leb (hi img r) 255 ≡ true)
+  range-ends : (r : ℕ) → r < ranges img → (leb (lo img r) (hi img r) ≡ true) × (leb (hi img r) greatestByte ≡ true)
   unfolding rangeRule
   range-ends r l =
       let b = and-then-good _ _ (each-at _ _ (scanner .0) r l) in
-      both (leb (lo img r) (hi img r)) (leb (hi img r) 255) (rule-good _ _ (and-then-good _ _ (b .1) .0))
+      both (leb (lo img r) (hi img r)) (leb (hi img r) greatestByte) (rule-good _ _ (and-then-good _ _ (b .1) .0))
 
   pub good-range : (r : ℕ) → r < ranges img → lo img r ≤ hi img r
   good-range r l = leb-true _ _ (range-ends r l .0)
 
-  pub good-byte : (r : ℕ) → r < ranges img → hi img r ≤ 255
+  pub good-byte : (r : ℕ) → r < ranges img → hi img r ≤ greatestByte
   good-byte r l = leb-true _ _ (range-ends r l .1)
 
   pub good-above : (r : ℕ) → r + 1 < ranges img → hi img r < lo img (r + 1)
@@ -126,6 +126,6 @@ module _ (img : List ℕ) (good : shape img ≡ Good) where
   unfolding parserRules layoutRule
   good-layout = fits-below _ (rule-good _ _ (and-then-good _ _ (good-parts .1) .0))
 
--- "The largest image is 20,589 words."
-pub largest-image : (img : List ℕ) → Sized img → needed img ≤ 20589
+-- No image is larger than the largest.
+pub largest-image : (img : List ℕ) → Sized img → needed img ≤ largestImage
 largest-image img s = omega arith

@@ -9,9 +9,10 @@ use borrow.Author.Tests.{leb-true, ltb-true, eqb-true, eqb-false}
 use Rattle.sets.specs.Sets.{has, member, lacks}
 use Rattle.pack.specs.declared.Action.{Action}
 use Rattle.pack.specs.declared.Action.the-variants.{Error, Accept, Shift, Reduce}
-use Rattle.pack.specs.Image.{terminals, nonterminals, productions, states, groups, layout, lhs, len, act, actionOf, goto, groupSet, chosen}
+use Rattle.pack.specs.Image.{mostSymbols, terminals, nonterminals, productions, states, groups, layout, lhs, len, act, actionOf, goto, groupSet, chosen}
 use Rattle.shape.specs.declared.Verdict.the-variants.{Good}
-use Rattle.shape.specs.Shape.{each, parserRules, scannerRules, prodRule, actRight, actRule, cellRule, gotoRules, groupRule, shape}
+use Rattle.shape.specs.Shape.{each, parserRules, scannerRules, prodRule, actRule, cellRule, gotoRules, groupRule, shape}
+use Rattle.rules.specs.Rules.{actRight}
 use Rattle.shape.proofs.Laws.{both, rule-good, and-then-good, each-at}
 use Rattle.shape.proofs.Good.{good-parts}
 
@@ -81,12 +82,12 @@ module _ (img : List ℕ) (good : shape img ≡ Good) where
   pub reduce-to : {u n to : ℕ} → u < states img → n < nonterminals img → to ≡ goto img u n → to ≤ states img
   reduce-to lu ln e = rw e (good-goto _ _ lu ln)
 
-  -- A production makes a nonterminal of the pack, of at most 14 symbols.
+  -- A production makes one of the nonterminals, of at most 14 symbols.
   pub good-lhs : (p : ℕ) → p < productions img → lhs img p < nonterminals img
   unfolding prodRule
   good-lhs p l = ltb-true _ _ (rule-good _ _ (and-then-good _ _ (each-at _ _ (parser .0) p l) .0))
 
-  pub good-len : (p : ℕ) → p < productions img → len img p ≤ 14
+  pub good-len : (p : ℕ) → p < productions img → len img p ≤ mostSymbols
   unfolding prodRule
   good-len p l = leb-true _ _ (rule-good _ _ (and-then-good _ _ (and-then-good _ _ (each-at _ _ (parser .0) p l) .1) .0))
 

@@ -1,20 +1,18 @@
 -- Laws of the shape's tests: what a loop over them does, and what a verdict says of each. Assumes nothing.
-use mathlib.Core.Path.{_≡_, refl, sym, ap, ap₂, _∙_}
+use mathlib.Core.Path.{_≡_, refl, sym, _∙_}
 use mathlib.Core.Bool.{Bool, true, false, _&&_}
 use mathlib.Core.List.{List}
-use Prim.Native.Nat.{ℕ, zero, suc, _+_, _*_, _-_, _/_, _%_, _<_, _≤_, min}
+use Prim.Native.Nat.{ℕ, zero, suc, _+_, _*_, _-_, _<_, _≤_, min}
 use native.Mathlib.Nat.{not-suc-le-zero, le-of-suc-le-suc, add-zero, sub-zero, zero-lt-suc, zero-add, zero-mul, suc-mul, add-comm, mul-le-mul}
 use native.Mathlib.Numerals.{add-one}
 use native.Mathlib.Omega.{arith}
-use lib.Dec.{eqb}
 use lib.ListN.{length}
 use borrow.Author.Tests.{eq-eqb, ne-eqb, le-leb, lt-leb, eqb-true, leb-true, ltb-true}
-use Rattle.sets.specs.Sets.{lacks}
 use Rattle.shape.specs.declared.Verdict.{Verdict}
 use Rattle.shape.specs.declared.Verdict.the-variants.{Good, Wrong}
-use Rattle.pack.specs.Image.{word, terminals, productions, ranges, groups, states, nonterminals, scanStates, classes, gotoStart, moveStart, leastSize, greatestSize, needed, layout, actionOf, groupSet}
-use Rattle.shape.specs.Shape.{isWrong, rule, andThen, each, sizeRule, lengthRule, headRules, layoutRule, domRule, prodRule, actRight, actRule, cellRule, gotoRules, moveRules, rangeRule, scanRule, differs, groupRule, parserRules, scannerRules, shape}
-use Rattle.shape.specs.declared.rules.Table.the-variants.{Dom, Prod, Act, Class, Scan, Group}
+use Rattle.pack.specs.Image.{word, sizeWords, terminals, productions, ranges, groups, states, nonterminals, scanStates, classes, gotoStart, moveStart, leastSize, greatestSize, needed}
+use Rattle.shape.specs.Shape.{isWrong, rule, andThen, each, sizeRule, lengthRule, headRules, layoutRule, domRule, prodRule, actRule, cellRule, gotoRules, moveRules, rangeRule, scanRule, parserRules, scannerRules, shape}
+use Rattle.shape.specs.declared.tables.Ruled.the-variants.{Dom, Prod, Act, Class, Scan, Group}
 use Rattle.shape.specs.Rows.{rowRule}
 use Rattle.pack.specs.Laid.{Sized, Laid}
 
@@ -96,15 +94,6 @@ each-good test (suc n) k e i l = go (each-good test n (k + 1)) (test k) refl e i
 pub each-at : (test : ℕ → Verdict) (n : ℕ) → each test n 0 ≡ Good → (i : ℕ) → i < n → test i ≡ Good
 each-at test n e i l = rw (zero-add i) at (each-good test n 0 e i l)
 
--- No action but error stands in a layout column.
-pub layout-column : (img : List ℕ) (t code : ℕ) {l : ℕ} → l ≡ layout img → (code ≡ 0 → ⊥) → (code ≡ 1 → ⊥) → lacks l t ≡ false → actRight img t (actionOf code) ≡ false
-unfolding actRight actionOf
-layout-column img t code a n m e = go (eqb ((code - 2) % 2) 0) refl
-  where
-    go : (b : Bool) → eqb ((code - 2) % 2) 0 ≡ b → actRight img t (actionOf code) ≡ false
-    go true f = simp (actionOf, ne-eqb _ _ n, ne-eqb _ _ m, f, actRight, ← a, e, _&&_)
-    go false f = simp (actionOf, ne-eqb _ _ n, ne-eqb _ _ m, f, actRight, ← a, e, _&&_)
-
 -- Tests in rows are tests one after the other.
 pub each-append : (test : ℕ → Verdict) (a b i : ℕ) → each test (a + b) i ≡ andThen (each test a i) (each test b (i + a))
 unfolding each andThen
@@ -144,21 +133,6 @@ each-rows test w (suc r) s =
     go Good e f ih = simp (each, e, sym f ∙ e, andThen) ih
     go (Wrong p) e f ih = simp (each, e, sym f ∙ e, andThen)
 
--- The loop that compares a set with the groups before it.
-module _ (img : List ℕ) (set n g : ℕ) where
-  pub differs-end : n ≤ g → differs img set (n - g) g ≡ true
-  unfolding differs
-  differs-end h = let z : n - g ≡ 0 = omega arith in rw z
-
-  module _ (h : g < n) {x : ℕ} (e : x ≡ groupSet img g) where
-    pub differs-not : x ≡ set → differs img set (n - g) g ≡ false
-    unfolding differs
-    differs-not t = let z : n - g ≡ suc (n - (g + 1)) = omega arith in rw z (simp (differs, ← e, eq-eqb _ _ t))
-
-    pub differs-on : (x ≡ set → ⊥) → differs img set (n - g) g ≡ differs img set (n - (g + 1)) (g + 1)
-    unfolding differs
-    differs-on t = let z : n - g ≡ suc (n - (g + 1)) = omega arith in rw z (simp (differs, ← e, ne-eqb _ _ t))
-
 -- A word that is too large, and one that is not.
 module _ (img : List ℕ) (most at : ℕ) {w : ℕ} (e : w ≡ word img at) where
   pub cell-wrong : most < w → Wrong at ≡ cellRule img most at
@@ -170,15 +144,15 @@ module _ (img : List ℕ) (most at : ℕ) {w : ℕ} (e : w ≡ word img at) wher
   cell-good h = simp (cellRule, rule, ← e, le-leb _ _ h)
 
 -- Sizes within their limits are sized, and an image of that length is laid out.
-size-good : (img : List ℕ) → each (sizeRule img) 8 1 ≡ Good → (i : ℕ) → i < 8
+size-good : (img : List ℕ) → each (sizeRule img) sizeWords 1 ≡ Good → (i : ℕ) → i < sizeWords
     → (1 + i < length img) × (leastSize (1 + i) ≤ word img (1 + i)) × (word img (1 + i) ≤ greatestSize (1 + i))
 unfolding sizeRule
 size-good img e i l =
-    let r = both _ _ (rule-good _ _ (each-good (sizeRule img) 8 1 e i l)) in
+    let r = both _ _ (rule-good _ _ (each-good (sizeRule img) sizeWords 1 e i l)) in
     let m = both _ _ (r .1) in
     (ltb-true _ _ (r .0), leb-true _ _ (m .0), leb-true _ _ (m .1))
 
-pub sizes-sized : (img : List ℕ) → each (sizeRule img) 8 1 ≡ Good → Sized img
+pub sizes-sized : (img : List ℕ) → each (sizeRule img) sizeWords 1 ≡ Good → Sized img
 unfolding leastSize greatestSize
 sizes-sized img e =
     let at = size-good img e in
@@ -217,14 +191,15 @@ head-laid img e =
     let r = and-then-good _ _ (and-then-good _ _ e .1) in
     record { sized = sizes-sized img (r .0); whole = eqb-true _ _ (rule-good _ _ (r .1)) }
 
--- A chain of tests: the first that is wrong is the answer, and one that is good leaves the answer to the next.
-pub then-wrong : {v a : Verdict} (b : Verdict) → v ≡ a → isWrong v ≡ true → v ≡ andThen a b
+-- A chain of tests: the first that is wrong is the answer, and one that is good leaves the answer to the next. Here and below a law
+-- takes what `is_wrong` says of a verdict, and then what the test says of that.
+then-wrong : {v a : Verdict} {x : Bool} (b : Verdict) → v ≡ a → x ≡ isWrong v → x ≡ true → v ≡ andThen a b
 unfolding andThen
-then-wrong b e w = let p = is-wrong _ w in rw (← e, p .1)
+then-wrong b e s w = let p = is-wrong _ (sym s ∙ w) in rw (← e, p .1)
 
-pub then-good : {v a : Verdict} (b : Verdict) → v ≡ a → isWrong v ≡ false → b ≡ andThen a b
+then-good : {v a : Verdict} {x : Bool} (b : Verdict) → v ≡ a → x ≡ isWrong v → x ≡ false → b ≡ andThen a b
 unfolding andThen
-then-good b e w = rw (← e, is-good _ w)
+then-good b e s g = rw (← e, is-good _ (sym s ∙ g))
 
 -- The ways out of the test of word 0, the sizes and the total length.
 module _ (img : List ℕ) {w : ℕ} (e : w ≡ word img 0) where
@@ -232,18 +207,18 @@ module _ (img : List ℕ) {w : ℕ} (e : w ≡ word img 0) where
   unfolding headRules andThen rule
   head-first n = simp (headRules, ← e, ne-eqb w 1 n, rule, andThen)
 
-  module _ (o : w ≡ 1) {v : Verdict} (s : v ≡ each (sizeRule img) 8 1) where
-    pub head-size : isWrong v ≡ true → v ≡ headRules img
+  module _ (o : w ≡ 1) {v : Verdict} (s : v ≡ each (sizeRule img) sizeWords 1) where
+    pub head-size : {x : Bool} → x ≡ isWrong v → x ≡ true → v ≡ headRules img
     unfolding headRules andThen rule
-    head-size g = simp (headRules, ← e, eq-eqb w 1 o, rule, andThen) (then-wrong _ s g)
+    head-size i g = simp (headRules, ← e, eq-eqb w 1 o, rule, andThen) (then-wrong _ s i g)
 
-    module _ (g : isWrong v ≡ false) where
+    module _ {x : Bool} (i : x ≡ isWrong v) (g : x ≡ false) where
       to-length : lengthRule img ≡ headRules img
       unfolding headRules andThen rule
-      to-length = simp (headRules, ← e, eq-eqb w 1 o, rule, andThen) (then-good _ s g)
+      to-length = simp (headRules, ← e, eq-eqb w 1 o, rule, andThen) (then-good _ s i g)
 
       pub head-sized : Sized img
-      head-sized = sizes-sized img (sym s ∙ is-good v g)
+      head-sized = sizes-sized img (sym s ∙ is-good v (sym i ∙ g))
 
       module _ {n : ℕ} (f : n ≡ needed img) where
         pub head-short : length img < n → Wrong (length img) ≡ headRules img
@@ -278,83 +253,84 @@ module _ (img : List ℕ) {v : Verdict} {n start most : ℕ} (e : v ≡ each (λ
 
 -- The ways out of the chains: a table is wrong where all before it are good, or the last one gives the answer.
 module _ (img : List ℕ) {a : Verdict} (ea : a ≡ layoutRule img) where
-  pub parser-1 : isWrong a ≡ true → a ≡ parserRules img
+  pub parser-1 : {x : Bool} → x ≡ isWrong a → x ≡ true → a ≡ parserRules img
   unfolding parserRules
-  parser-1 w = (then-wrong _ ea w)
+  parser-1 i w = then-wrong _ ea i w
 
-  module _ (ga : isWrong a ≡ false) {b : Verdict} {t : ℕ} (eb : b ≡ each (rowRule img Dom) t 0) (et : t ≡ terminals img) where
+  module _ {xa : Bool} (ia : xa ≡ isWrong a) (ga : xa ≡ false) {b : Verdict} {t : ℕ} (eb : b ≡ each (rowRule img Dom) t 0) (et : t ≡ terminals img) where
     dom-rows : b ≡ each (domRule img) (terminals img) 0
     unfolding rowRule
     dom-rows = eb ∙ rw et
 
-    pub parser-2 : isWrong b ≡ true → b ≡ parserRules img
+    pub parser-2 : {x : Bool} → x ≡ isWrong b → x ≡ true → b ≡ parserRules img
     unfolding parserRules
-    parser-2 w = (then-wrong _ dom-rows w ∙ then-good _ ea ga)
+    parser-2 i w = then-wrong _ dom-rows i w ∙ then-good _ ea ia ga
 
-    module _ (gb : isWrong b ≡ false) {d : Verdict} {p : ℕ} (ed : d ≡ each (rowRule img Prod) p 0) (ep : p ≡ productions img) where
+    module _ {xb : Bool} (ib : xb ≡ isWrong b) (gb : xb ≡ false) {d : Verdict} {p : ℕ} (ed : d ≡ each (rowRule img Prod) p 0) (ep : p ≡ productions img) where
       prod-rows : d ≡ each (prodRule img) (productions img) 0
       unfolding rowRule
       prod-rows = ed ∙ rw ep
 
-      pub parser-3 : isWrong d ≡ true → d ≡ parserRules img
+      pub parser-3 : {x : Bool} → x ≡ isWrong d → x ≡ true → d ≡ parserRules img
       unfolding parserRules
-      parser-3 w = (then-wrong _ prod-rows w ∙ then-good _ dom-rows gb ∙ then-good _ ea ga)
+      parser-3 i w = then-wrong _ prod-rows i w ∙ then-good _ dom-rows ib gb ∙ then-good _ ea ia ga
 
-      module _ (gd : isWrong d ≡ false) {f : Verdict} (ef : f ≡ each (rowRule img Act) (states img) 0) where
+      module _ {xd : Bool} (id : xd ≡ isWrong d) (gd : xd ≡ false) {f : Verdict} (ef : f ≡ each (rowRule img Act) (states img) 0) where
         act-rows : f ≡ each (λ r. each (actRule img r) (terminals img) 0) (states img) 0
         unfolding rowRule
         act-rows = ef
 
-        pub parser-4 : isWrong f ≡ true → f ≡ parserRules img
+        pub parser-4 : {x : Bool} → x ≡ isWrong f → x ≡ true → f ≡ parserRules img
         unfolding parserRules
-        parser-4 w = (then-wrong _ act-rows w ∙ then-good _ prod-rows gd ∙ then-good _ dom-rows gb ∙ then-good _ ea ga)
+        parser-4 i w = then-wrong _ act-rows i w ∙ then-good _ prod-rows id gd ∙ then-good _ dom-rows ib gb ∙ then-good _ ea ia ga
 
-        pub parser-5 : {h : Verdict} → isWrong f ≡ false → h ≡ gotoRules img → h ≡ parserRules img
+        pub parser-5 : {h : Verdict} {x : Bool} → x ≡ isWrong f → x ≡ false → h ≡ gotoRules img → h ≡ parserRules img
         unfolding parserRules
-        parser-5 gf eh =
-            (eh ∙ then-good _ act-rows gf ∙ then-good _ prod-rows gd ∙ then-good _ dom-rows gb ∙ then-good _ ea ga)
+        parser-5 i gf eh = eh ∙ then-good _ act-rows i gf ∙ then-good _ prod-rows id gd ∙ then-good _ dom-rows ib gb ∙ then-good _ ea ia ga
 
 module _ (img : List ℕ) {a : Verdict} {r : ℕ} (ea : a ≡ each (rowRule img Class) r 0) (er : r ≡ ranges img) where
   class-rows : a ≡ each (rangeRule img) (ranges img) 0
   unfolding rowRule
   class-rows = ea ∙ rw er
 
-  pub scanner-1 : isWrong a ≡ true → a ≡ scannerRules img
+  pub scanner-1 : {x : Bool} → x ≡ isWrong a → x ≡ true → a ≡ scannerRules img
   unfolding scannerRules
-  scanner-1 w = (then-wrong _ class-rows w)
+  scanner-1 i w = then-wrong _ class-rows i w
 
-  module _ (ga : isWrong a ≡ false) {b : Verdict} (eb : b ≡ moveRules img) where
-    pub scanner-2 : isWrong b ≡ true → b ≡ scannerRules img
+  module _ {xa : Bool} (ia : xa ≡ isWrong a) (ga : xa ≡ false) {b : Verdict} (eb : b ≡ moveRules img) where
+    pub scanner-2 : {x : Bool} → x ≡ isWrong b → x ≡ true → b ≡ scannerRules img
     unfolding scannerRules
-    scanner-2 w = (then-wrong _ eb w ∙ then-good _ class-rows ga)
+    scanner-2 i w = then-wrong _ eb i w ∙ then-good _ class-rows ia ga
 
-    module _ (gb : isWrong b ≡ false) {d : Verdict} {q : ℕ} (ed : d ≡ each (rowRule img Scan) q 0) (eq : q ≡ scanStates img) where
+    module _ {xb : Bool} (ib : xb ≡ isWrong b) (gb : xb ≡ false) {d : Verdict} {q : ℕ} (ed : d ≡ each (rowRule img Scan) q 0) (eq : q ≡ scanStates img) where
       scan-rows : d ≡ each (scanRule img) (scanStates img) 0
       unfolding rowRule
       scan-rows = ed ∙ rw eq
 
-      pub scanner-3 : isWrong d ≡ true → d ≡ scannerRules img
+      pub scanner-3 : {x : Bool} → x ≡ isWrong d → x ≡ true → d ≡ scannerRules img
       unfolding scannerRules
-      scanner-3 w = (then-wrong _ scan-rows w ∙ then-good _ eb gb ∙ then-good _ class-rows ga)
+      scanner-3 i w = then-wrong _ scan-rows i w ∙ then-good _ eb ib gb ∙ then-good _ class-rows ia ga
 
-      pub scanner-4 : {h : Verdict} {g : ℕ} → isWrong d ≡ false → h ≡ each (rowRule img Group) g 0 → g ≡ groups img → h ≡ scannerRules img
+      pub scanner-4 : {h : Verdict} {g : ℕ} {x : Bool} → x ≡ isWrong d → x ≡ false → h ≡ each (rowRule img Group) g 0 → g ≡ groups img → h ≡ scannerRules img
       unfolding scannerRules rowRule
-      scanner-4 gd eh eg =
-          (eh ∙ rw eg (then-good _ scan-rows gd ∙ then-good _ eb gb ∙ then-good _ class-rows ga))
+      scanner-4 i gd eh eg = eh ∙ rw eg (then-good _ scan-rows i gd ∙ then-good _ eb ib gb ∙ then-good _ class-rows ia ga)
 
 module _ (img : List ℕ) {a : Verdict} (ea : a ≡ headRules img) where
-  pub shape-1 : isWrong a ≡ true → a ≡ shape img
+  pub shape-1 : {x : Bool} → x ≡ isWrong a → x ≡ true → a ≡ shape img
   unfolding shape
-  shape-1 w = (then-wrong _ ea w)
+  shape-1 i w = then-wrong _ ea i w
 
-  module _ (ga : isWrong a ≡ false) {b : Verdict} (eb : b ≡ parserRules img) where
-    pub shape-2 : isWrong b ≡ true → b ≡ shape img
-    unfolding shape
-    shape-2 w = (then-wrong _ eb w ∙ then-good _ ea ga)
+  pub shape-laid : {x : Bool} → x ≡ isWrong a → x ≡ false → Laid img
+  shape-laid i g = head-laid img (sym ea ∙ is-good _ (sym i ∙ g))
 
-    pub shape-3 : {d : Verdict} → isWrong b ≡ false → d ≡ scannerRules img → d ≡ shape img
+  module _ {xa : Bool} (ia : xa ≡ isWrong a) (ga : xa ≡ false) {b : Verdict} (eb : b ≡ parserRules img) where
+    pub shape-2 : {x : Bool} → x ≡ isWrong b → x ≡ true → b ≡ shape img
     unfolding shape
-    shape-3 gb ed = (ed ∙ then-good _ eb gb ∙ then-good _ ea ga)
+    shape-2 i w = then-wrong _ eb i w ∙ then-good _ ea ia ga
+
+    pub shape-3 : {d : Verdict} {x : Bool} → x ≡ isWrong b → x ≡ false → d ≡ scannerRules img → d ≡ shape img
+    unfolding shape
+    shape-3 i gb ed = ed ∙ then-good _ eb i gb ∙ then-good _ ea ia ga
 
 -- A table whose number of rows was read from the image.
 pub same-count : (test : ℕ → Verdict) {v : Verdict} {n m : ℕ} → v ≡ each test n 0 → n ≡ m → v ≡ each test m 0

@@ -10,17 +10,17 @@ use lib.Arith.{digits-lt}
 use lib.Dec.{eqb}
 use lib.ListN.{length, getD, take, drop, length-drop}
 use lib.Seq.{length-take-le, getD-take, getD-drop}
-use borrow.Author.Tests.{eq-eqb, ne-eqb, le-leb, lt-ltb, eqb-true, eqb-false}
-use Rattle.sets.specs.Sets.{member, lacks}
+use borrow.Author.Tests.{ne-eqb, le-leb, lt-ltb, eqb-true, eqb-false}
+use Rattle.sets.specs.Sets.{member}
 use Rattle.sets.proofs.Laws.{out-lacks}
-use Rattle.shape.specs.declared.Verdict.{Verdict}
 use Rattle.shape.specs.declared.Verdict.the-variants.{Good}
-use Rattle.shape.specs.declared.rules.Table.the-variants.{Act}
+use Rattle.shape.specs.declared.tables.Ruled.the-variants.{Act}
 use Rattle.pack.specs.Image.{word, terminals, productions, states, actStart, layout, act, actionOf}
 use Rattle.pack.specs.Laid.{Laid}
 use Rattle.shape.specs.Quick.{Above, Free, Sound, SoundRow}
 use Rattle.shape.specs.Rows.{rowRule}
-use Rattle.shape.specs.Shape.{rule, each, actRight, actRule, cellRule}
+use Rattle.shape.specs.Shape.{rule, each, actRule, cellRule}
+use Rattle.rules.specs.Rules.{actRight}
 use Rattle.shape.proofs.Laws.{each-all}
 
 -- A part of the image, by its words.
@@ -92,13 +92,13 @@ module _ (img : List ℕ) (s at end : ℕ) {free : List ℕ} (laid : Laid img) (
       let r = sound-right img t _ (getD free t 0) (rw here at (sound .each t m long)) (λ b. f .shut t (omega arith) b) m in
       simp (actRule, rule, r)
 
-  pub row-good : {shifts reductions : ℕ} → shifts ≡ states img * 2 → reductions ≡ productions img * 2 + 1 → actRule img s 0 ≡ Good
+  pub row-good : {shifts reductions : ℕ} → shifts ≡ states img * 2 → reductions ≡ productions img * 2 + 1 → actRight img 0 (actionOf (act img s 0)) ≡ true
       → SoundRow (take (end - at) (drop at img)) free shifts reductions → rowRule img Act s ≡ Good
-  unfolding rowRule
+  unfolding rowRule actRule rule
   row-good es er first sound = each-all (actRule img s) (terminals img) 0 (λ t l. rw (zero-add t) (go t l))
     where
       go : (t : ℕ) → t < terminals img → actRule img s t ≡ Good
-      go zero l = first
+      go zero l = simp (actRule, rule, first)
       go (suc t) l = cell-good (suc t) l (omega arith) (rw (es, er) at sound)
 
 -- A row of the action table ends within the image, and the next one begins where it ends.

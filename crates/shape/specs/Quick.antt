@@ -1,11 +1,12 @@
--- What the quick passes over the large tables promise where they say that all is well. `shape` does not use this file.
+-- Manual, section 1.6: what the quick passes over the large tables promise where they say that all is well. `shape` does not use this
+-- file.
 use mathlib.Core.Path.{_≡_}
 use mathlib.Core.Bool.{true}
 use mathlib.Core.List.{List}
 use Prim.Native.Nat.{ℕ, _+_, _*_, _%_, _<_, _≤_}
 use lib.ListN.{length, getD}
 use Rattle.sets.specs.Sets.{member}
-use Rattle.pack.specs.Image.{terminals, productions, states, actStart, layout}
+use Rattle.pack.specs.Image.{mostTerminals, terminals, productions, states, actStart, layout}
 
 -- No word is above the limit.
 pub record Above (words : List ℕ) (most : ℕ) : Type 0 where
@@ -13,7 +14,7 @@ pub record Above (words : List ℕ) (most : ℕ) : Type 0 where
 
 -- A layout column allows nothing.
 pub record Free (layout : ℕ) (free : List ℕ) : Type 0 where
-  pub shut : (t : ℕ) → t < 64 → member layout t ≡ true → getD free t 0 ≡ 0
+  pub shut : (t : ℕ) → t < mostTerminals → member layout t ≡ true → getD free t 0 ≡ 0
 
 -- An action code of a column other than 0.
 pub record Sound (code free shifts reductions : ℕ) : Type 0 where
@@ -27,7 +28,7 @@ pub record SoundRow (words free : List ℕ) (shifts reductions : ℕ) : Type 0 w
   pub each : (t : ℕ) → 1 ≤ t → t < length words → Sound (getD words t 0) (getD free t 0) shifts reductions
 
 -- What a pass over the row of parse state s is given: where the row begins, what its columns allow, and the greatest codes.
-pub record Row (img free : List ℕ) (s at shifts reductions : ℕ) : Type 0 where
+pub record RowAt (img free : List ℕ) (s at shifts reductions : ℕ) : Type 0 where
   pub state : s < states img
   pub starts : at ≡ actStart img + s * terminals img
   pub allows : Free (layout img) free

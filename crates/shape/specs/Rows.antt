@@ -1,13 +1,14 @@
--- How the code walks the tables whose rows have a rule each: the same rules, by the table. `shape` does not use this file.
+-- Manual, section 1.6: the tables whose rows have a rule each, and that rule by the table, which is how the code walks them. `shape` does
+-- not use this file.
 use mathlib.Core.List.{List}
 use Prim.Native.Nat.{ℕ}
 use Rattle.shape.specs.declared.Verdict.{Verdict}
-use Rattle.shape.specs.declared.rules.Table.{Table}
-use Rattle.shape.specs.declared.rules.Table.the-variants.{Dom, Prod, Act, Class, Scan, Group}
+use Rattle.shape.specs.declared.tables.Ruled.{Ruled}
+use Rattle.shape.specs.declared.tables.Ruled.the-variants.{Dom, Prod, Act, Class, Scan, Group}
 use Rattle.pack.specs.Image.{terminals, productions, states, scanStates, ranges, groups}
 use Rattle.shape.specs.Shape.{each, domRule, prodRule, actRule, rangeRule, scanRule, groupRule}
 
-unfoldable pub rowRule : List ℕ → Table → ℕ → Verdict
+unfoldable pub rowRule : List ℕ → Ruled → ℕ → Verdict
 rowRule img Dom i = domRule img i
 rowRule img Prod i = prodRule img i
 rowRule img Act i = each (actRule img i) (terminals img) 0
@@ -15,7 +16,7 @@ rowRule img Class i = rangeRule img i
 rowRule img Scan i = scanRule img i
 rowRule img Group i = groupRule img i
 
-unfoldable pub rowsOf : List ℕ → Table → ℕ
+unfoldable pub rowsOf : List ℕ → Ruled → ℕ
 rowsOf img Dom = terminals img
 rowsOf img Prod = productions img
 rowsOf img Act = states img

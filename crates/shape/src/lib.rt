@@ -1,12 +1,12 @@
 // The shape of any words: good, or the place of the first wrong one.
 ghost use mathlib.Core.Path.{_≡_};
 ghost use Rattle.pack.specs.Laid.{Laid};
-ghost use Rattle.shape.specs.Shape.{isWrong, codeOf, placeOf, parserRules, scannerRules, shape};
+ghost use Rattle.shape.specs.Shape.{isWrong, verdictCode, verdictPlace, parserRules, scannerRules, shape};
 use pack::image;
-use rules::Table;
+use tables::Ruled;
 
 mod quick; // quick.rt: passes that only say whether all is well
-mod rules; // rules.rt: the rules of the shape
+mod tables; // tables.rt: the verdict on an entry, a row or a table
 
 // What the shape test says: every word is right, or this is the place of the first wrong one.
 pub enum Verdict {
@@ -24,19 +24,19 @@ pub fn is_wrong(v: Verdict) -> bool
     }
 }
 
-// Document 01's code for a verdict: 0, or 4.
-pub fn code_of(v: Verdict) -> u8
-    ensures { λ r. ⌜ r ≡ codeOf v ⌝ }
+// The code of a verdict.
+pub fn verdict_code(v: Verdict) -> u8
+    ensures { λ r. ⌜ r ≡ verdictCode v ⌝ }
 {
     match v {
-        Verdict::Good => 0,
-        Verdict::Wrong(_) => 4,
+        Verdict::Good => numbers::DONE,
+        Verdict::Wrong(_) => numbers::WRONG_SHAPE,
     }
 }
 
 // The place of the first wrong word, and 0 where there is none.
-pub fn place_of(v: Verdict) -> usize
-    ensures { λ r. ⌜ r ≡ placeOf v ⌝ }
+pub fn verdict_place(v: Verdict) -> usize
+    ensures { λ r. ⌜ r ≡ verdictPlace v ⌝ }
 {
     match v {
         Verdict::Good => 0,
@@ -49,23 +49,23 @@ fn parser_rules(img: &[u16]) -> Verdict
     requires { ⌜ Laid (now img) ⌝ }
     ensures { λ r. ⌜ r ≡ parserRules (now (img .entry)) ⌝ }
 {
-    let layout = rules::layout_rule(img);
+    let layout = tables::layout_rule(img);
     if is_wrong(layout) {
         return layout;
     }
-    let dom = rules::rows(img, Table::Dom, image::terminals(img));
+    let dom = tables::rows(img, Ruled::Dom, image::terminals(img));
     if is_wrong(dom) {
         return dom;
     }
-    let prod = rules::rows(img, Table::Prod, image::productions(img));
+    let prod = tables::rows(img, Ruled::Prod, image::productions(img));
     if is_wrong(prod) {
         return prod;
     }
-    let act = rules::acts(img);
+    let act = tables::acts(img);
     if is_wrong(act) {
         return act;
     }
-    rules::gotos(img)
+    tables::gotos(img)
 }
 
 // The tables of the scanner: class, move, scan and group.
@@ -73,26 +73,26 @@ fn scanner_rules(img: &[u16]) -> Verdict
     requires { ⌜ Laid (now img) ⌝ }
     ensures { λ r. ⌜ r ≡ scannerRules (now (img .entry)) ⌝ }
 {
-    let class = rules::rows(img, Table::Class, image::ranges(img));
+    let class = tables::rows(img, Ruled::Class, image::ranges(img));
     if is_wrong(class) {
         return class;
     }
-    let moves = rules::moves(img);
+    let moves = tables::moves(img);
     if is_wrong(moves) {
         return moves;
     }
-    let scan = rules::rows(img, Table::Scan, image::scan_states(img));
+    let scan = tables::rows(img, Ruled::Scan, image::scan_states(img));
     if is_wrong(scan) {
         return scan;
     }
-    rules::rows(img, Table::Group, image::groups(img))
+    tables::rows(img, Ruled::Group, image::groups(img))
 }
 
 // The shape of any words: good, or the place of the first wrong one.
 pub fn shape(img: &[u16]) -> Verdict
     ensures { λ r. ⌜ r ≡ shape (now (img .entry)) ⌝ }
 {
-    let head = rules::head(img);
+    let head = tables::head(img);
     if is_wrong(head) {
         return head;
     }

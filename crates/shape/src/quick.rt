@@ -1,19 +1,17 @@
 // Quick passes over the large tables, with no way out before the end of a row, so that the compiler can take many words at once. Each
-// says only whether all is well: where it says no, the exact walk of rules.rt gives the place. So a pass promises something only where
+// says only whether all is well: where it says no, the exact walk of tables.rt gives the place. So a pass promises something only where
 // it says yes.
-use super::is_wrong;
-use super::rules;
 use pack::image;
 ghost use mathlib.Core.Path.{_≡_};
 ghost use mathlib.Core.Bool.{true};
-ghost use Prim.Native.Nat.{ℕ, _+_, _*_, _%_, _<_, _≤_};
-ghost use lib.ListN.{length, getD};
+ghost use Prim.Native.Nat.{_+_, _*_, _%_, _<_, _≤_};
+ghost use lib.ListN.{length};
 ghost use Rattle.sets.specs.Sets.{member};
 ghost use Rattle.shape.specs.declared.Verdict.the-variants.{Good};
-ghost use Rattle.shape.specs.declared.rules.Table.the-variants.{Act};
-ghost use Rattle.pack.specs.Image.{terminals, states};
+ghost use Rattle.shape.specs.declared.tables.Ruled.the-variants.{Act};
+ghost use Rattle.pack.specs.Image.{mostTerminals, terminals, states};
 ghost use Rattle.pack.specs.Laid.{Laid};
-ghost use Rattle.shape.specs.Quick.{Above, Free, Row, Sound, SoundRow};
+ghost use Rattle.shape.specs.Quick.{Above, Free, RowAt, Sound, SoundRow};
 ghost use Rattle.shape.specs.Rows.{rowRule};
 ghost use Rattle.shape.specs.Shape.{each};
 
@@ -24,7 +22,7 @@ fn larger(a: u16, b: u16) -> u16
 }
 
 // No word is above it.
-pub fn largest(words: &[u16]) -> u16
+pub fn largest(words: &[u16]) -> usize
     ensures { λ r. ⌜ Above (now (words .entry)) r ⌝ }
 {
     let mut top: u16 = 0;
@@ -33,7 +31,7 @@ pub fn largest(words: &[u16]) -> u16
         top = larger(top, words[i]);
         i += 1;
     }
-    top
+    top as usize
 }
 
 // The most that a code of a column may be: nothing in a layout column, anything in another.
@@ -46,12 +44,12 @@ fn free_in(layout: u64, t: usize) -> u16
     65535
 }
 
-fn free_columns(layout: u64) -> [u16; 64]
+fn free_columns(layout: u64) -> [u16; image::MOST_TERMINALS]
     ensures { λ r. ⌜ Free layout r ⌝ }
 {
-    let mut free = [0u16; 64];
+    let mut free = [0u16; image::MOST_TERMINALS];
     let mut t: usize = 0;
-    while t < 64 {
+    while t < image::MOST_TERMINALS {
         free[t] = free_in(layout, t);
         t += 1;
     }
@@ -85,8 +83,8 @@ fn flaw(code: u16, free: u16, shifts: u16, reductions: u16) -> u16
 }
 
 // 0 where no code of the row is wrong, from column 1 on.
-fn flaws(words: &[u16], free: &[u16; 64], shifts: u16, reductions: u16) -> u16
-    requires { ⌜ length (now words) ≤ 64 ⌝ }
+fn flaws(words: &[u16], free: &[u16; image::MOST_TERMINALS], shifts: u16, reductions: u16) -> u16
+    requires { ⌜ length (now words) ≤ mostTerminals ⌝ }
     ensures { λ r. ⌜ (r ≡ 0 → SoundRow (now (words .entry)) (now (free .entry)) shifts reductions) ⌝ }
 {
     let mut found: u16 = 0;
@@ -99,18 +97,21 @@ fn flaws(words: &[u16], free: &[u16; 64], shifts: u16, reductions: u16) -> u16
 }
 
 // Whether the row of parse state s is right, which begins at a place.
-fn row(img: &[u16], free: &[u16; 64], s: usize, at: usize, shifts: u16, reductions: u16) -> bool
+fn row(
+    img: &[u16],
+    free: &[u16; image::MOST_TERMINALS],
+    s: usize,
+    at: usize,
+    shifts: u16,
+    reductions: u16,
+) -> bool
     requires { ⌜ Laid (now img) ⌝ }
-    requires { ⌜ Row (now img) (now free) s at shifts reductions ⌝ }
+    requires { ⌜ RowAt (now img) (now free) s at shifts reductions ⌝ }
     ensures { λ r. ⌜ (r ≡ true → rowRule (now (img .entry)) Act s ≡ Good) ⌝ }
 {
-    let first = rules::act_rule(img, s, 0);
-    if is_wrong(first) {
-        return false;
-    }
-    let end = at + image::terminals(img);
-    if flaws(&img[at..end], free, shifts, reductions) == 0 {
-        return true;
+    if rules::act_right(img, 0, image::act(img, s, 0)) {
+        let end = at + image::terminals(img);
+        return flaws(&img[at..end], free, shifts, reductions) == 0;
     }
     false
 }

@@ -1,29 +1,29 @@
 -- Round trip from the image: the text of an image of good shape is read back as that image, field by field, row by row, line by
 -- line and table by table.
 use mathlib.Core.Path.{_≡_, refl, sym, ap, _∙_}
-use mathlib.Core.Bool.{Bool, true, false}
+use mathlib.Core.Bool.{false, _&&_}
 use mathlib.Core.List.{List, [], _∷_, _++_, append-assoc, append-nil}
 use Prim.Native.Nat.{ℕ, zero, suc, _+_, _*_, _-_, _<_, _≤_}
 use native.Mathlib.Nat.{suc-mul, add-zero}
 use native.Mathlib.Numerals.{add-one}
 use native.Mathlib.Omega.{arith}
-use lib.Dec.{ltb}
 use lib.ListN.{length, getD, take}
 use lib.Seq.{take-suc, drop-at}
-use borrow.Author.Tests.{eq-eqb}
+use borrow.Author.Tests.{eq-eqb, lt-leb}
 use Rattle.text.specs.declared.Kind.{Kind}
 use Rattle.text.specs.declared.Kind.the-variants.{Number, Set}
 use Rattle.text.specs.declared.Row.{Row}
 use Rattle.text.specs.declared.Row.the-variants.{Numbers, Sets, Production, Group}
-use Rattle.text.specs.Fields.{readField, wordsOf, widthOf, decimal, hexWord, fieldText}
-use Rattle.text.specs.Form.{Table, newline, comma, after, rowWidth}
-use Rattle.text.specs.Reader.{thenRead, expect, fieldThen, fields, zeros, symbolsOf, readRow, thenLines, asLine, readLines, readTables}
+use Rattle.text.specs.Decimal.{isDigit, decimal}
+use Rattle.text.specs.Fields.{greatestWord, readField, wordsOf, widthOf, hexWord, fieldText}
+use Rattle.text.specs.Form.{Table, newline, comma, after, rowWidth, tableWords}
+use Rattle.text.specs.Reader.{thenRead, expect, fieldThen, readFields, zeros, readSymbols, readRow, thenLines, asLine, readLines, readTables}
 use Rattle.text.specs.Reader.Line.{took}
 use Rattle.text.specs.Reader.Lines.{all}
 use Rattle.text.specs.Writer.{fieldsText, rowText, linesText, tablesText}
-use Rattle.text.specs.Steps.{tableWords}
-use Rattle.text.proofs.ReadLaws.{field, field-then, symbols-go}
-use Rattle.text.proofs.FieldTrip.{number-back, set-back, value-words, valueOf}
+use Rattle.text.proofs.Decimal.{field, number-back, decimal-some}
+use Rattle.text.proofs.Hex.{set-back, value-words, valueOf}
+use Rattle.text.proofs.Lines.{field-then, symbols-go}
 
 -- Every word has 16 bits.
 abbrev pub Small : List ℕ → Type 0
@@ -46,21 +46,15 @@ unfolding expect
 expect-next c w rest = simp (expect, eq-eqb c c refl)
 
 module _ (img : List ℕ) (small : Small img) where
-  decimal-some : (n c : ℕ) (rest : List ℕ) → n < 65536 → c < 48 → (length (decimal n) ≡ 0 → ⊥)
-  unfolding decimal
-  decimal-some n c rest h e = go (ltb n 10) refl (ltb n 100) refl (ltb n 1000) refl (ltb n 10000) refl
-    where
-      go : (a : Bool) → ltb n 10 ≡ a → (b : Bool) → ltb n 100 ≡ b → (x : Bool) → ltb n 1000 ≡ x → (d : Bool) → ltb n 10000 ≡ d → length (decimal n) ≡ 0 → ⊥
-      go true p b q x r d s z = let y = simp (decimal, p) at z in omega arith
-      go false p true q x r d s z = let y = simp (decimal, p, q) at z in omega arith
-      go false p false q true r d s z = let y = simp (decimal, p, q, r) at z in omega arith
-      go false p false q false r true s z = let y = simp (decimal, p, q, r, s) at z in omega arith
-      go false p false q false r false s z = let y = simp (decimal, p, q, r, s) at z in omega arith
+  -- A byte below the digits ends a number.
+  low : (c : ℕ) → c < 48 → isDigit c ≡ false
+  unfolding isDigit
+  low c h = simp (isDigit, _&&_, lt-leb 48 c h)
 
   number-then : (n c : ℕ) (w rest : List ℕ) → n < 65536 → c < 48 → fieldThen Number c w (decimal n ++ (c ∷ rest)) ≡ took (w ++ (n ∷ [])) rest
   unfolding readField wordsOf
   number-then n c w rest h e =
-      field-then Number c w (decimal n ++ (c ∷ rest)) (field n (length (decimal n))) (sym (number-back n c rest h e)) (decimal-some n c rest h e)
+      field-then Number c w (decimal n ++ (c ∷ rest)) (field n (length (decimal n))) (sym (number-back greatestWord n (c ∷ rest) (omega arith) (low c e))) (decimal-some n)
       ∙ rw (drop-at (decimal n) (c ∷ rest) (length (decimal n)) refl) (expect-next c _ rest)
 
   pub take-one : (i : ℕ) → i < length img → take i img ++ (getD img i 0 ∷ []) ≡ take (i + 1) img
@@ -96,8 +90,8 @@ module _ (img : List ℕ) (small : Small img) where
   after-low (suc n) end h = omega arith
 
   fields-back : (kind : Kind) (n end i : ℕ) (rest : List ℕ) → i + n * widthOf kind ≤ length img → end < 48
-      → fields kind n end (take i img) (fieldsText kind n end img i ++ rest) ≡ took (take (i + n * widthOf kind) img) rest
-  unfolding fields fieldsText thenRead
+      → readFields kind n end (take i img) (fieldsText kind n end img i ++ rest) ≡ took (take (i + n * widthOf kind) img) rest
+  unfolding readFields fieldsText thenRead
   fields-back kind zero end i rest h e = let z : i + 0 * widthOf kind ≡ i = omega arith in rw z
   fields-back kind (suc n) end i rest h e =
       let z : i + widthOf kind + n * widthOf kind ≡ i + suc n * widthOf kind = omega (arith, suc-mul n (widthOf kind)) in
@@ -118,7 +112,7 @@ module _ (img : List ℕ) (small : Small img) where
       sym (append-assoc (take s img) (0 ∷ []) (zeros k)) ∙ rw w (pads k (s + 1) (omega arith) (λ j l. let v : s + 1 + j ≡ s + suc j = omega arith in rw v (z (suc j) (omega arith))) ∙ rw y)
 
   symbols-back : (i : ℕ) (rest : List ℕ) → i + 15 ≤ length img → getD img i 0 ≤ 14 → ((j : ℕ) → getD img i 0 ≤ j → j < 14 → getD img (i + 1 + j) 0 ≡ 0)
-      → symbolsOf (take i img) (decimal (getD img i 0) ++ (after (getD img i 0) newline ∷ (fieldsText Number (getD img i 0) newline img (i + 1) ++ rest))) ≡ took (take (i + 15) img) rest
+      → readSymbols (take i img) (decimal (getD img i 0) ++ (after (getD img i 0) newline ∷ (fieldsText Number (getD img i 0) newline img (i + 1) ++ rest))) ≡ took (take (i + 15) img) rest
   unfolding thenRead
   symbols-back i rest h l z =
       let n = getD img i 0 in
@@ -126,8 +120,8 @@ module _ (img : List ℕ) (small : Small img) where
       let tail = fieldsText Number n newline img (i + 1) ++ rest in
       let x : i + 1 + n * 1 ≡ i + 1 + n = omega arith in
       let y : i + 1 + n + (14 - n) ≡ i + 15 = omega arith in
-      symbols-go (take i img) (decimal n ++ (c ∷ tail)) (field n (length (decimal n))) (sym (number-back n c tail (small i) (after-low n newline (omega arith))))
-      (decimal-some n c tail (small i) (after-low n newline (omega arith))) l
+      symbols-go (take i img) (decimal n ++ (c ∷ tail)) (field n (length (decimal n))) (sym (number-back greatestWord n (c ∷ tail) (omega (arith, small i)) (low c (after-low n newline (omega arith)))))
+      (decimal-some n) l
       ∙ rw (
         drop-at (decimal n) (c ∷ tail) (length (decimal n)) refl,
         expect-next c (take i img ++ (n ∷ [])) tail,

@@ -1,9 +1,7 @@
-pub mod DeliverLaws
-pub mod FieldText
-pub mod FieldTrip
+pub mod Decimal
+pub mod Hex
 pub mod ImageTrip
-pub mod Limits
-pub mod ReadLaws
+pub mod Lines
 pub mod RoundTrip
+pub mod Tables
 pub mod TextTrip
-pub mod WriteLaws

@@ -12,19 +12,18 @@ use borrow.Author.Tests.{lt-ltb, le-ltb, ltb-false, leb-true, eqb-true}
 use Rattle.shape.specs.declared.Verdict.{Verdict}
 use Rattle.shape.specs.declared.Verdict.the-variants.{Good, Wrong}
 use Rattle.pack.specs.Image.{word, productions, prodStart, layoutAt, len, symbol}
+use Rattle.rules.specs.Rules.{symbolRight}
 use Rattle.shape.specs.Shape.{each, sizeRule, symbolRule, prodRule, headRules, parserRules, shape}
 use Rattle.shape.proofs.Laws.{rule-good, and-then-good, each-good, each-all}
 use Rattle.shape.proofs.Good.{good-laid}
 use Rattle.text.specs.declared.Row.the-variants.{Numbers, Sets, Production, Group}
 use Rattle.numbers.specs.Front.{deliver}
-use Rattle.text.specs.Form.{packLine, sizes, tablesOf, rowWidth}
+use Rattle.text.specs.Form.{packLine, sizes, tablesOf, rowWidth, tableWords}
 use Rattle.text.specs.Reader.{Lines, thenRead, thenLines, asLine, readTables, limited, readHead, ended, readAll, judge, read}
 use Rattle.text.specs.Reader.Line.{took}
 use Rattle.text.specs.Reader.Lines.{wrongFrom, all}
 use Rattle.text.specs.Writer.{rowText, linesText, tablesText, textOf, writeGood, write}
-use Rattle.text.specs.Steps.{isGood, tableWords, tablesFor}
-use Rattle.text.proofs.Limits.{limited-good, tables-are, sizes-take}
-use Rattle.text.proofs.DeliverLaws.{shape-sizes}
+use Rattle.text.proofs.Tables.{tables-needed, tables-take}
 use Rattle.text.proofs.ImageTrip.{Small, ProdRight, Right, take-one, expect-name, row-back, tables-back}
 use Rattle.text.proofs.TextTrip.{text-back}
 use Rattle.text.proofs.ImageTrip.Right.{no-more, more}
@@ -60,7 +59,7 @@ module _ (img : List ℕ) (good : shape img ≡ Good) where
         most = leb-true _ _ (rule-good _ _ (a .0));
         unused = λ j l k.
             let q = rule-good _ _ (each-good (symbolRule img p) 14 0 (a .1) j k) in
-            eqb-true _ _ (simp (zero-add, le-ltb j _ l) at q);
+            eqb-true _ _ (simp (zero-add, symbolRight, le-ltb j _ l) at q);
       }
 
   -- Only the third table has productions.
@@ -79,26 +78,29 @@ module _ (img : List ℕ) (good : shape img ≡ Good) where
       no-more))))))))
 
   all-words : layoutAt + tableWords (tablesOf img) ≡ length img
-  unfolding tablesOf tableWords rowWidth
-  all-words = omega (arith, good-laid img good .whole)
+  all-words = tables-needed img ∙ sym (good-laid img good .whole)
 
   nine : 9 ≤ length img
   nine = omega (arith, all-words)
+
+  sizes-good : each (sizeRule img) 8 1 ≡ Good
+  unfolding shape headRules
+  sizes-good = and-then-good _ _ (and-then-good _ _ (and-then-good _ _ good .0) .1) .0
 
   -- The first nine words have the same sizes.
   size-front : (i : ℕ) → i < 8 → sizeRule (take 9 img) (1 + i) ≡ Good
   unfolding sizeRule
   size-front i h =
-      let r : sizeRule img (1 + i) ≡ Good = each-good (sizeRule img) 8 1 (shape-sizes img good) i h in
+      let r : sizeRule img (1 + i) ≡ Good = each-good (sizeRule img) 8 1 sizes-good i h in
       let l = length-take-le 9 img nine in
       simp (l, getD-take 9 img (1 + i) 0 (omega arith), lt-ltb (1 + i) 9 (omega arith)) (simp (lt-ltb (1 + i) (length img) (omega (arith, nine))) at r)
 
   limited-front : (rest : List ℕ) → limited (take 9 img) rest ≡ took (take 9 img) rest
-  unfolding isGood
-  limited-front rest = limited-good (take 9 img) rest (rw (each-all (sizeRule (take 9 img)) 8 1 size-front))
+  unfolding limited
+  limited-front rest = simp (limited, each-all (sizeRule (take 9 img)) 8 1 size-front)
 
   tables-same : tablesOf (take 9 img) ≡ tablesOf img
-  tables-same = tables-are (take 9 img) ∙ ap tablesFor (sizes-take img 9 (omega arith)) ∙ sym (tables-are img)
+  tables-same = tables-take img 9 (omega arith)
 
   module _ (small : Small img) where
     head-back : (rest : List ℕ) → readHead (packLine ++ (linesText (sizes .name) (sizes .row) (sizes .lines) img 1 ++ rest)) ≡ all (take 9 img) rest

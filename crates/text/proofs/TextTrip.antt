@@ -15,9 +15,10 @@ use Rattle.text.specs.declared.Kind.{Kind}
 use Rattle.text.specs.declared.Kind.the-variants.{Number, Set}
 use Rattle.text.specs.declared.Row.{Row}
 use Rattle.text.specs.declared.Row.the-variants.{Numbers, Sets, Production, Group}
-use Rattle.text.specs.Fields.{readNumber, readSet, readField, wordsOf, widthOf, hexWord, fieldText}
-use Rattle.text.specs.Form.{Table, newline, comma, after, packLine, sizes, tablesOf, rowWidth}
-use Rattle.text.specs.Reader.{Line, Lines, thenRead, expect, fieldThen, fields, zeros, symbolsOf, readRow, thenLines, asLine, readLines, readTables, limited, readHead, ended, readAll}
+use Rattle.text.specs.Decimal.{readNumber}
+use Rattle.text.specs.Fields.{greatestWord, readSet, readField, wordsOf, widthOf, hexWord, fieldText}
+use Rattle.text.specs.Form.{Table, newline, comma, after, packLine, sizes, tablesOf, rowWidth, tableWords}
+use Rattle.text.specs.Reader.{Line, Lines, thenRead, expect, fieldThen, readFields, zeros, readSymbols, readRow, thenLines, asLine, readLines, readTables, limited, readHead, ended, readAll}
 use Rattle.text.specs.Reader.Line.{wrong, took}
 use Rattle.text.specs.Reader.Lines.{wrongFrom, all}
 use Rattle.text.specs.Writer.{fieldsText, rowText, linesText, tablesText, textOf}
@@ -25,11 +26,10 @@ use Rattle.shape.specs.declared.Verdict.{Verdict}
 use Rattle.shape.specs.declared.Verdict.the-variants.{Good, Wrong}
 use Rattle.pack.specs.Image.{layoutAt}
 use Rattle.shape.specs.Shape.{each, sizeRule}
-use Rattle.text.specs.Steps.{tableWords, tablesFor, sizesIn}
-use Rattle.text.proofs.Limits.{tables-are, sizes-take}
-use Rattle.text.proofs.ReadLaws.{field-none, field-then, symbols-none, symbols-much, symbols-go}
-use Rattle.text.proofs.FieldTrip.{value-words}
-use Rattle.text.proofs.FieldText.{number-text, set-text}
+use Rattle.text.proofs.Decimal.{number-text}
+use Rattle.text.proofs.Hex.{value-words, set-text}
+use Rattle.text.proofs.Lines.{field-none, field-then, symbols-none, symbols-much, symbols-go}
+use Rattle.text.proofs.Tables.{tables-take}
 
 -- The image begins with these words.
 abbrev pub Begins : List ℕ → List ℕ → Type 0
@@ -103,7 +103,7 @@ field-words : (kind : Kind) (w bytes img : List ℕ) → (readField kind bytes .
     → fieldText kind img (length w) ++ drop (readField kind bytes .used) bytes ≡ bytes
 unfolding readField wordsOf fieldText hexWord
 field-words Number w bytes img z b =
-    rw (word-here img w (readNumber bytes .value ∷ []) (omega arith) b) (number-text bytes z)
+    rw (word-here img w (readNumber greatestWord bytes .value ∷ []) (omega arith) b) (number-text greatestWord bytes z)
 field-words Set w bytes img z b =
     let s = set-text bytes z in
     let vs = s .a ∷ s .b ∷ s .c ∷ s .d ∷ [] in
@@ -155,8 +155,8 @@ unfolding expect
 told-none w bytes w′ rest e = told-name [] w bytes w′ rest e
 
 -- ---- fields
-pub fields-told : (kind : Kind) (n end : ℕ) (w bytes w′ rest : List ℕ) → fields kind n end w bytes ≡ took w′ rest → Told (n * widthOf kind) (fieldsText kind n end) w bytes w′ rest
-unfolding fields fieldsText
+pub fields-told : (kind : Kind) (n end : ℕ) (w bytes w′ rest : List ℕ) → readFields kind n end w bytes ≡ took w′ rest → Told (n * widthOf kind) (fieldsText kind n end) w bytes w′ rest
+unfolding readFields fieldsText
 fields-told kind zero end w bytes w′ rest e = told-as _ _ (omega arith) (λ img b. refl) (told-none w bytes w′ rest e)
 fields-told kind (suc n) end w bytes w′ rest e =
     let p = then-told _ _ w′ rest e in
@@ -172,24 +172,24 @@ zeros-length (suc n) = ap suc (zeros-length n)
 abbrev symbolsText : List ℕ → ℕ → List ℕ
 symbolsText img i = fieldText Number img i ++ (after (getD img i 0) newline ∷ fieldsText Number (getD img i 0) newline img (i + 1))
 
-symbols-told : (w bytes w′ rest : List ℕ) → symbolsOf w bytes ≡ took w′ rest → Told 15 symbolsText w bytes w′ rest
+symbols-told : (w bytes w′ rest : List ℕ) → readSymbols w bytes ≡ took w′ rest → Told 15 symbolsText w bytes w′ rest
 unfolding readField wordsOf
-symbols-told w bytes w′ rest e = go (leb (readNumber bytes .value) 14) refl
+symbols-told w bytes w′ rest e = go (leb (readNumber greatestWord bytes .value) 14) refl
   where
-    used : readNumber bytes .used ≡ 0 → ⊥
-    used z = not-wrong w′ rest (sym (symbols-none w bytes (readNumber bytes) refl z) ∙ e)
+    used : readNumber greatestWord bytes .used ≡ 0 → ⊥
+    used z = not-wrong w′ rest (sym (symbols-none w bytes (readNumber greatestWord bytes) refl z) ∙ e)
 
-    go : (x : Bool) → leb (readNumber bytes .value) 14 ≡ x → Told 15 symbolsText w bytes w′ rest
-    go false g = absurd (not-wrong w′ rest (sym (symbols-much w bytes (readNumber bytes) refl used (leb-false _ _ g)) ∙ e))
+    go : (x : Bool) → leb (readNumber greatestWord bytes .value) 14 ≡ x → Told 15 symbolsText w bytes w′ rest
+    go false g = absurd (not-wrong w′ rest (sym (symbols-much w bytes (readNumber greatestWord bytes) refl used (leb-false _ _ g)) ∙ e))
     go true g =
-        let n = readNumber bytes .value in
+        let n = readNumber greatestWord bytes .value in
         let l = leb-true n 14 g in
-        let p = then-told _ _ w′ rest (sym (symbols-go w bytes (readNumber bytes) refl used l) ∙ e) in
+        let p = then-told _ _ w′ rest (sym (symbols-go w bytes (readNumber greatestWord bytes) refl used l) ∙ e) in
         let q = then-told _ _ w′ rest (p .two) in
         let s : (q .w₁ ++ zeros (14 - n)) ≡ w′ = cc (q .two) in
         let t : q .r₁ ≡ rest = cc (q .two) in
         let v : (w ++ (n ∷ [])) ≡ p .w₁ = expect-told (after n newline ∷ []) _ _ (p .w₁) (p .r₁) (p .one) .0 in
-        let a = field-told Number (after n newline) w bytes (p .w₁) (p .r₁) (field-then Number (after n newline) w bytes (readNumber bytes) refl used ∙ p .one) in
+        let a = field-told Number (after n newline) w bytes (p .w₁) (p .r₁) (field-then Number (after n newline) w bytes (readNumber greatestWord bytes) refl used ∙ p .one) in
         let b = fields-told Number n newline (p .w₁) (p .r₁) (q .w₁) (q .r₁) (q .one) in
         let c : Told (length (zeros (14 - n))) (λ img i. []) (q .w₁) (q .r₁) w′ rest = told-same w′ rest s t (told-words (q .w₁) (zeros (14 - n)) (q .r₁)) in
         let bc = told-two b c in
@@ -316,7 +316,6 @@ text-back text words e =
     let t = told-same words [] (d .0) (d .1) (tables-told (tablesOf (q .w₁)) (q .w₁) (q .r₁) (p .w₁) (p .r₁) (q .two)) in
     let b = take-length words in
     let f : take 9 words ≡ q .w₁ = rw (h .long) at (t .front) in
-    let s : tablesOf (q .w₁) ≡ tablesOf words =
-    tables-are (q .w₁) ∙ ap tablesFor (ap sizesIn (sym f) ∙ sizes-take words 9 (omega arith)) ∙ sym (tables-are words) in
+    let s : tablesOf (q .w₁) ≡ tablesOf words = ap tablesOf (sym f) ∙ tables-take words 9 (omega arith) in
     let u : tablesText (tablesOf words) words layoutAt ≡ q .r₁ = sym (append-nil _) ∙ (rw (h .long, s) at (t .stood words b)) in
     ap (λ (l : List ℕ). packLine ++ (linesText (sizes .name) (sizes .row) (sizes .lines) words 1 ++ l)) u ∙ h .stood words (t .front)

@@ -1,4 +1,4 @@
--- A quoted text as the list of its characters' codes: what the names of lines, the packs and the queries are written in.
+-- Manual, section 1.2: a quoted text as the list of its characters' codes. The names of lines, packs and queries are written so.
 use mathlib.Core.List.{List, [], _∷_}
 use Prim.Native.Nat.{ℕ, zero, suc, _+_}
 use Prim.Native.Char.{code}

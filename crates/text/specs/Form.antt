@@ -1,9 +1,11 @@
--- Document 01, "Text form: lines in this order, each ended by one LF, fields split by commas." The image has the same numbers
--- in the same order, so one list of tables serves the reader and the writer.
+-- Manual, section 1.2: the text form. Lines, each ended by one LF, hold fields that are split by commas. The image has the same numbers
+-- in the same order, so that one list of tables serves the reader and the writer.
 use mathlib.Core.List.{List, [], _∷_}
-use Prim.Native.Nat.{ℕ, zero, suc, _*_}
+use Prim.Native.Nat.{ℕ, zero, suc, _+_, _*_}
+use lib.ListN.{getD}
 use Rattle.pack.specs.Image.{terminals, nonterminals, productions, states, scanStates, classes, ranges, groups}
 use Rattle.text.specs.Bytes.{bytes}
+use Rattle.text.specs.Fields.{setWords}
 use Rattle.text.specs.declared.Row.{Row}
 use Rattle.text.specs.declared.Row.the-variants.{Numbers, Sets, Production, Group}
 
@@ -24,15 +26,15 @@ pub record Table : Type 0 where
   pub row : Row
   pub lines : ℕ
 
--- `pack=1` and its LF; `size=`.
+-- The first two lines: `pack=1`, and the eight sizes.
 unfoldable pub packLine : List ℕ
 packLine = bytes "pack=1\n"
 
 unfoldable pub sizes : Table
 sizes = record { name = bytes "size="; row = Numbers 8; lines = 1 }
 
--- `layout=set`; T times `dom=set`; P times `prod=lhs,len` and its len symbols; S times `act=` T codes; S times `goto=` N codes;
--- R times `class=lo,hi,c`; Q times `move=` C codes; Q times `scan=acc,rej,poss`; G times `group=set,chosen`.
+-- The tables in their order. A production is lhs, len and so many symbols; a range is lo, hi and its class; a scan state has the sets
+-- acc, rej and poss; a group is its set and the chosen terminal. The rows of act, goto and move are cells: a code for each column.
 unfoldable pub tablesOf : List ℕ → List Table
 tablesOf img =
     record { name = bytes "layout="; row = Sets 1; lines = 1 } ∷
@@ -45,9 +47,31 @@ tablesOf img =
     record { name = bytes "scan="; row = Sets 3; lines = scanStates img } ∷
     record { name = bytes "group="; row = Group; lines = groups img } ∷ []
 
--- The words of a row in the image.
+-- The table at a place of the list, for places below 9.
+abbrev pub tableAt : List ℕ → ℕ → Table
+tableAt img i = getD (tablesOf img) i sizes
+
+-- The words of a production, of which 14 are for symbols, and of a group.
+abbrev pub mostSymbols : ℕ
+mostSymbols = 14
+
+abbrev pub prodWords : ℕ
+prodWords = 2 + mostSymbols
+
+abbrev pub groupWords : ℕ
+groupWords = setWords + 1
+
+-- The words of the largest image.
+abbrev pub largestImage : ℕ
+largestImage = 20589
+
+-- The words of a row in the image, and of tables.
 unfoldable pub rowWidth : Row → ℕ
 rowWidth (Numbers n) = n
-rowWidth (Sets n) = n * 4
-rowWidth Production = 16
-rowWidth Group = 5
+rowWidth (Sets n) = n * setWords
+rowWidth Production = prodWords
+rowWidth Group = groupWords
+
+unfoldable pub tableWords : List Table → ℕ
+tableWords [] = 0
+tableWords (t ∷ tables) = t .lines * rowWidth (t .row) + tableWords tables

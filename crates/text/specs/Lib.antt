@@ -1,6 +1,6 @@
 pub mod Bytes
+pub mod Decimal
 pub mod Fields
 pub mod Form
 pub mod Reader
-pub mod Steps
 pub mod Writer

@@ -1,5 +1,5 @@
--- Reading a pack text: "Reader order: 2, 1, 4, 3. In it, size limits and len ≤ 14 belong to the line form."
--- What is read are the bytes that are left; what has been read are the words of the image so far.
+-- Manual, sections 1.2 and 5.2: reading a pack text. It is refused by 2, 1, 4 and 3, in that order; the limits of the sizes and of len
+-- belong to the form of their lines. What is read are the bytes that are left; what has been read are the words of the image so far.
 use mathlib.Core.Bool.{true, false}
 use mathlib.Core.List.{List, [], _∷_, _++_}
 use Prim.Native.Nat.{ℕ, zero, suc, _-_}
@@ -14,7 +14,7 @@ use Rattle.text.specs.declared.Row.{Row}
 use Rattle.text.specs.declared.Row.the-variants.{Numbers, Sets, Production, Group}
 use Rattle.numbers.specs.Front.{Delivery, refuse, deliver}
 use Rattle.text.specs.Fields.{readField, wordsOf}
-use Rattle.text.specs.Form.{Table, newline, comma, after, packLine, sizes, tablesOf}
+use Rattle.text.specs.Form.{Table, newline, comma, after, packLine, sizes, tablesOf, mostSymbols}
 
 -- A line, or a part of one: it is wrong, or these are the words so far and the bytes after it.
 pub data Line : Type 0 where
@@ -41,35 +41,35 @@ fieldThen kind next words bytes =
       | suc k ↦ expect (next ∷ []) (words ++ wordsOf kind (field .value)) (drop (field .used) bytes)
     ]
 
--- So many fields of one kind, "split by commas", the last followed by `end`.
-unfoldable pub fields : Kind → ℕ → ℕ → List ℕ → List ℕ → Line
-fields kind zero end words bytes = took words bytes
-fields kind (suc n) end words bytes = thenRead (fieldThen kind (after n end) words bytes) (λ w rest. fields kind n end w rest)
+-- So many fields of one kind, split by commas, the last followed by `end`.
+unfoldable pub readFields : Kind → ℕ → ℕ → List ℕ → List ℕ → Line
+readFields kind zero end words bytes = took words bytes
+readFields kind (suc n) end words bytes = thenRead (fieldThen kind (after n end) words bytes) (λ w rest. readFields kind n end w rest)
 
 -- So many words 0.
 unfoldable pub zeros : ℕ → List ℕ
 zeros zero = []
 zeros (suc n) = 0 ∷ zeros n
 
--- What stands behind lhs: len "and its len symbols", as 15 words, "unused ones 0". The byte after len depends on it.
-unfoldable pub symbolsOf : List ℕ → List ℕ → Line
-symbolsOf words bytes =
+-- What stands behind lhs: len and so many symbols. The words that no symbol uses are 0. The byte after len depends on it.
+unfoldable pub readSymbols : List ℕ → List ℕ → Line
+readSymbols words bytes =
     let size = readField Number bytes in
     elim (size .used) [
       | zero ↦ wrong
-      | suc k ↦ elim (leb (size .value) 14) [
+      | suc k ↦ elim (leb (size .value) mostSymbols) [
         | false ↦ wrong
         | true ↦
             thenRead (expect (after (size .value) newline ∷ []) (words ++ (size .value ∷ [])) (drop (size .used) bytes))
-            (λ w rest. thenRead (fields Number (size .value) newline w rest) (λ u left. took (u ++ zeros (14 - size .value)) left))
+            (λ w rest. thenRead (readFields Number (size .value) newline w rest) (λ u left. took (u ++ zeros (mostSymbols - size .value)) left))
       ]
     ]
 
 -- What stands behind the `=` of a line.
 unfoldable pub readRow : Row → List ℕ → List ℕ → Line
-readRow (Numbers n) words bytes = fields Number n newline words bytes
-readRow (Sets n) words bytes = fields Set n newline words bytes
-readRow Production words bytes = thenRead (fieldThen Number comma words bytes) symbolsOf
+readRow (Numbers n) words bytes = readFields Number n newline words bytes
+readRow (Sets n) words bytes = readFields Set n newline words bytes
+readRow Production words bytes = thenRead (fieldThen Number comma words bytes) readSymbols
 readRow Group words bytes = thenRead (fieldThen Set comma words bytes) (fieldThen Number newline)
 
 -- Lines, read one after the other: they are all right, or these are the bytes from the start of the first wrong or missing one on.
@@ -100,7 +100,7 @@ readTables (t ∷ tables) words bytes = thenLines (readLines (t .name) (t .row) 
 unfoldable pub limited : List ℕ → List ℕ → Line
 limited words bytes = elim (each (sizeRule words) 8 1) [ Good ↦ took words bytes | Wrong place ↦ wrong ]
 
--- The first two lines, `pack=1` and `size=`.
+-- The first two lines.
 unfoldable pub readHead : List ℕ → Lines
 readHead bytes =
     thenLines (asLine bytes (expect packLine (1 ∷ []) bytes))

@@ -1,4 +1,4 @@
--- Writing a pack text: "Writer: 4, 2, 3."
+-- Manual, sections 1.2 and 5.2: writing a pack text. It is refused by 4, 2 and 3, in that order.
 use mathlib.Core.Bool.{true, false}
 use mathlib.Core.List.{List, [], _∷_, _++_}
 use Prim.Native.Nat.{ℕ, zero, suc, _+_, _*_}
@@ -13,7 +13,7 @@ use Rattle.text.specs.declared.Kind.the-variants.{Number, Set}
 use Rattle.text.specs.declared.Row.{Row}
 use Rattle.text.specs.declared.Row.the-variants.{Numbers, Sets, Production, Group}
 use Rattle.numbers.specs.Front.{Delivery, refuse, deliver}
-use Rattle.text.specs.Fields.{fieldText, widthOf}
+use Rattle.text.specs.Fields.{fieldText, setWords, widthOf}
 use Rattle.text.specs.Form.{Table, newline, comma, after, packLine, sizes, tablesOf, rowWidth}
 
 -- So many fields of one kind from a place of the image on, split by commas, the last followed by `end`.
@@ -26,7 +26,7 @@ unfoldable pub rowText : Row → List ℕ → ℕ → List ℕ
 rowText (Numbers n) img at = fieldsText Number n newline img at
 rowText (Sets n) img at = fieldsText Set n newline img at
 rowText Production img at = fieldsText Number (2 + getD img (at + 1) 0) newline img at
-rowText Group img at = fieldsText Set 1 comma img at ++ fieldsText Number 1 newline img (at + 4)
+rowText Group img at = fieldsText Set 1 comma img at ++ fieldsText Number 1 newline img (at + setWords)
 
 -- n lines of a table, and the tables, from a place of the image on.
 unfoldable pub linesText : List ℕ → Row → ℕ → List ℕ → ℕ → List ℕ

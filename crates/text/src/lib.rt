@@ -1,20 +1,10 @@
-// Pack text to image, and image to pack text.
-use numbers::Answer;
-use shape::Verdict;
+// The text form of a pack: what its definitions speak of, and the list of tables, for the reader and the writer.
+use pack::image;
 ghost use mathlib.Core.Path.{_≡_};
-ghost use mathlib.Core.List.{[]};
-ghost use lib.ListN.{length};
-ghost use Rattle.shape.specs.declared.Verdict.the-variants.{Good};
-ghost use Rattle.shape.specs.Shape.{each, sizeRule};
-ghost use Rattle.numbers.specs.Front.{bufferAfter, deliver};
-ghost use Rattle.text.specs.Reader.{judge, read};
-ghost use Rattle.text.specs.Reader.Lines.{all};
-ghost use Rattle.text.specs.Writer.{writeGood, write};
-ghost use Rattle.text.specs.Steps.{Delivers};
-
-mod image;
-mod reader;
-mod writer;
+ghost use mathlib.Core.List.{List};
+ghost use Prim.Native.Nat.{ℕ, _<_, _≤_};
+ghost use lib.ListN.{length, take};
+ghost use Rattle.text.specs.Form.{after, tableAt};
 
 // A field is a number or a set.
 pub enum Kind {
@@ -36,114 +26,104 @@ pub struct Field {
     pub used: usize,
 }
 
-// How far the reader is: whether all was right so far, the place in the text, and the words of the image so far.
-pub struct Cursor {
-    pub ok: bool,
-    pub at: usize,
-    pub words: usize,
-}
+pub const NEWLINE: u8 = 10;
 
-// The sizes T, N, P, S, Q, C, R and G.
-pub struct Sizes {
-    pub t: usize,
-    pub n: usize,
-    pub p: usize,
-    pub s: usize,
-    pub q: usize,
-    pub c: usize,
-    pub r: usize,
-    pub g: usize,
-}
+pub const COMMA: u8 = 44;
 
-// The words at the front of the buffer, where there is room for them.
-fn copied(img: &[u16], buffer: &mut [u16]) -> Answer
-    ensures { λ r. ⌜ Delivers (deliver (now (img .entry)) (length (now (buffer .entry)))) (now (buffer .entry)) (now (buffer .exit)) r ⌝ }
+// The greatest number of a pack text.
+pub const GREATEST_WORD: u32 = 65535;
+
+// The words of a set, of a production, of its symbols and of a group; of the sizes with the 1 before them; and of the largest image.
+pub const SET_WORDS: usize = 4;
+
+pub const PROD_WORDS: usize = 16;
+
+pub const MOST_SYMBOLS: usize = 14;
+
+pub const GROUP_WORDS: usize = 5;
+
+pub const HEAD_WORDS: usize = 9;
+
+pub const LARGEST_IMAGE: usize = 20589;
+
+// The tables, and the bytes of the longest of their names.
+pub const TABLES: usize = 9;
+
+pub const LONGEST_NAME: usize = 7;
+
+// The byte after a field: a comma, or after the last one what ends the row.
+pub fn after(more: usize, end: u8) -> u8
+    ensures { λ r. ⌜ r ≡ after more end ⌝ }
 {
-    let words = img.len();
-    if buffer.len() < words {
-        return Answer {
-            code: 3,
-            number: words,
-        };
+    if more == 0 {
+        return end;
     }
+    COMMA
+}
+
+// Puts a name at the front of a row, and gives its length.
+fn put_name(row: &mut [u8], name: &[u8]) -> usize
+    requires { ⌜ length (now name) ≤ length (now row) ⌝ }
+    ensures { λ r. ⌜ (r ≡ length (now (name .entry))) × (take r (now (row .exit)) ≡ now (name .entry)) ⌝ }
+{
     let mut i: usize = 0;
-    while i < words {
-        buffer[i] = img[i];
+    while i < name.len() {
+        row[i] = name[i];
         i += 1;
     }
-    Answer { code: 0, number: i }
+    i
 }
 
-// Words that were read: they must have good shape, and there must be room.
-fn judged(img: &[u16], buffer: &mut [u16]) -> Answer
-    ensures { λ r. ⌜ Delivers (judge 0 (length (now (buffer .entry))) (all (now (img .entry)) [])) (now (buffer .entry)) (now (buffer .exit)) r ⌝ }
+// What the lines of table i begin with: it is put at the front of a row, and its length is given.
+pub fn name_of(i: usize, row: &mut [u8]) -> usize
+    requires { ⌜ (i < 9) × (7 ≤ length (now row)) ⌝ }
+    ensures { λ r. ⌜ (r ≤ 7) × ((img : List ℕ) → take r (now (row .exit)) ≡ tableAt img i .name) ⌝ }
 {
-    let verdict = shape::shape(img);
-    match verdict {
-        Verdict::Wrong(place) => Answer {
-            code: 4,
-            number: place,
-        },
-        Verdict::Good => copied(img, buffer),
-    }
-}
-
-// Reads a pack text. Codes 2, 1, 4 and 3 leave the buffer untouched; done puts the words of the image at its front.
-pub fn read(text: &[u8], buffer: &mut [u16]) -> Answer
-    ensures { λ r. ⌜ r ≡ read (now (text .entry)) (now (buffer .entry)) .answer ⌝ }
-    ensures { λ r. ⌜ now (buffer .exit) ≡ bufferAfter (now (buffer .entry)) (read (now (text .entry)) (now (buffer .entry))) ⌝ }
-{
-    if 65535 < text.len() {
-        return Answer { code: 2, number: 0 };
-    }
-    let mut img = [0u16; 20589];
-    let c = reader::read_all(text, &mut img);
-    let ok = c.ok;
-    let at = c.at;
-    let words = c.words;
-    if !ok {
-        return Answer {
-            code: 1,
-            number: at,
-        };
-    }
-    judged(&img[..words], buffer)
-}
-
-// The text of an image whose sizes are within their limits: its length first, and then its bytes.
-fn write_good(img: &[u16], buffer: &mut [u8]) -> Answer
-    requires { ⌜ each (sizeRule (now img)) 8 1 ≡ Good ⌝ }
-    ensures { λ r. ⌜ Delivers (writeGood (now (img .entry)) (length (now (buffer .entry)))) (now (buffer .entry)) (now (buffer .exit)) r ⌝ }
-{
-    let mut none = [0u8; 1];
-    let size = writer::write_text(&mut none, img);
-    if 65535 < size {
-        return Answer { code: 2, number: 0 };
-    }
-    if buffer.len() < size {
-        return Answer {
-            code: 3,
-            number: size,
-        };
-    }
-    let end = writer::write_text(buffer, img);
-    Answer {
-        code: 0,
-        number: end,
+    match i {
+        0 => put_name(row, b"layout="),
+        1 => put_name(row, b"dom="),
+        2 => put_name(row, b"prod="),
+        3 => put_name(row, b"act="),
+        4 => put_name(row, b"goto="),
+        5 => put_name(row, b"class="),
+        6 => put_name(row, b"move="),
+        7 => put_name(row, b"scan="),
+        _ => put_name(row, b"group="),
     }
 }
 
-// Writes an image as pack text. Codes 4, 2 and 3 leave the buffer untouched; done puts the bytes of the text at its front.
-pub fn write(img: &[u16], buffer: &mut [u8]) -> Answer
-    ensures { λ r. ⌜ r ≡ write (now (img .entry)) (now (buffer .entry)) .answer ⌝ }
-    ensures { λ r. ⌜ now (buffer .exit) ≡ bufferAfter (now (buffer .entry)) (write (now (img .entry)) (now (buffer .entry))) ⌝ }
+// What stands on each line of table i.
+pub fn row_of(img: &[u16], i: usize) -> Row
+    requires { ⌜ (9 ≤ length (now img)) × (i < 9) ⌝ }
+    ensures { λ r. ⌜ r ≡ tableAt (now (img .entry)) i .row ⌝ }
 {
-    let verdict = shape::shape(img);
-    match verdict {
-        Verdict::Wrong(place) => Answer {
-            code: 4,
-            number: place,
-        },
-        Verdict::Good => write_good(img, buffer),
+    match i {
+        0 => Row::Sets(1),
+        1 => Row::Sets(1),
+        2 => Row::Production,
+        3 => Row::Numbers(image::terminals(img)),
+        4 => Row::Numbers(image::nonterminals(img)),
+        5 => Row::Numbers(3),
+        6 => Row::Numbers(image::classes(img)),
+        7 => Row::Sets(3),
+        _ => Row::Group,
+    }
+}
+
+// How many lines table i has.
+pub fn lines_of(img: &[u16], i: usize) -> usize
+    requires { ⌜ (9 ≤ length (now img)) × (i < 9) ⌝ }
+    ensures { λ r. ⌜ r ≡ tableAt (now (img .entry)) i .lines ⌝ }
+{
+    match i {
+        0 => 1,
+        1 => image::terminals(img),
+        2 => image::productions(img),
+        3 => image::states(img),
+        4 => image::states(img),
+        5 => image::ranges(img),
+        6 => image::scan_states(img),
+        7 => image::scan_states(img),
+        _ => image::groups(img),
     }
 }

@@ -1,5 +1,4 @@
 use borrow.Author.Needs.{needs}
-use mathlib.Core.Path.{refl}
 use mathlib.Core.List.{[], _∷_}
 use native.Mathlib.Omega.{arith}
 use lib.ListN.{length-set}
@@ -8,7 +7,7 @@ use Rattle.capi.proofs.put5.Statement.{statement}
 use Rattle.capi.proofs.put5.Tie as tie
 
 returns : tie.Need-returns
-returns c = let a = c .before .args in no-room _ 5 (a .a ∷ a .b ∷ a .c ∷ a .d ∷ a .e ∷ []) refl (c .if1 .taken)
+returns c = let a = c .before .args in no-room _ (a .a ∷ a .b ∷ a .c ∷ a .d ∷ a .e ∷ []) (c .if1 .taken)
 
 slice-write-out-2 : tie.Need-slice-write-out-2
 slice-write-out-2 c = simp length-set (omega arith)
@@ -20,7 +19,7 @@ slice-write-out-4 : tie.Need-slice-write-out-4
 slice-write-out-4 c = simp length-set (omega arith)
 
 returns-2 : tie.Need-returns-2
-returns-2 c = let a = c .before .args in all-put _ 5 (a .a ∷ a .b ∷ a .c ∷ a .d ∷ a .e ∷ []) refl (c .if1 .left)
+returns-2 c = let a = c .before .args in all-put (a .out .now) (a .a ∷ a .b ∷ a .c ∷ a .d ∷ a .e ∷ []) (c .if1 .left)
 
 pub put5-spec : {M : Type 1} → statement M
 put5-spec =

@@ -1,5 +1,4 @@
 use borrow.Author.Needs.{needs}
-use mathlib.Core.Path.{sym, _∙_}
 use Rattle.capi.proofs.zhg_read.Statement.{statement}
 use Rattle.capi.proofs.zhg_read.Tie as tie
 
@@ -7,7 +6,8 @@ returns : tie.Need-returns
 returns c =
     let p = c .before .before in
     let r = p .before .before .before .before .before in
-    (p .put2 .ensures .0, (rw (← r .read .ensures .0) (p .put2 .ensures .1), r .read .ensures .1))
+    let e = r .read .ensures in
+    (rw (← e .0) (p .put2 .ensures .0), (rw (← e .0) (p .put2 .ensures .1), e .1))
 
 pub zhg-read-spec : {M : Type 1} → statement M
 zhg-read-spec =

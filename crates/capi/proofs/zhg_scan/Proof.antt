@@ -1,12 +1,11 @@
 use borrow.Author.Needs.{needs}
-use mathlib.Core.Path.{sym, ap, _∙_}
 use Rattle.capi.proofs.zhg_scan.Statement.{statement}
 use Rattle.capi.proofs.zhg_scan.Tie as tie
 
 returns : tie.Need-returns
 returns c =
     let p = c .before .before in
-    (p .put5 .ensures .0, rw (← p .before .before .before .scan .ensures) (p .put5 .ensures .1))
+    rw (← p .before .before .before .scan .ensures) (p .put5 .ensures)
 
 pub zhg-scan-spec : {M : Type 1} → statement M
 zhg-scan-spec =

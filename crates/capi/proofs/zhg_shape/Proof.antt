@@ -1,5 +1,4 @@
 use borrow.Author.Needs.{needs}
-use mathlib.Core.Path.{sym, ap, _∙_}
 use Rattle.capi.proofs.zhg_shape.Statement.{statement}
 use Rattle.capi.proofs.zhg_shape.Tie as tie
 
@@ -7,7 +6,7 @@ returns : tie.Need-returns
 returns c =
     let p = c .before .before in
     let k = p .before .before in
-    (p .put2 .ensures .0, rw (← k .before .before .shape .ensures, ← k .code-of .ensures, ← p .before .place-of .ensures) (p .put2 .ensures .1))
+    rw (← k .before .before .shape .ensures, ← k .before .verdict-code .ensures, ← k .verdict-place .ensures) (p .put2 .ensures)
 
 pub zhg-shape-spec : {M : Type 1} → statement M
 zhg-shape-spec =

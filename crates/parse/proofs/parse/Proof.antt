@@ -18,7 +18,7 @@ returns-2 c =
     let w = i .before in
     let v = w .before in
     let s = v .before .before .before .before .before in
-    let e = parse-wrong _ _ (s .args .tree .now) _ (v .before .if1 .left) (v .shape .ensures) (sym (w .is-wrong .ensures) ∙ i .if2 .taken) (c .before .place-of .ensures) in
+    let e = parse-wrong _ _ (s .args .tree .now) _ (v .before .if1 .left) (v .shape .ensures) (sym (w .is-wrong .ensures) ∙ i .if2 .taken) (c .before .verdict-place .ensures) in
     (c .refusal2 .ensures ∙ ap (λ (x : Ending). x .parsed) e, rw (← e) refl)
 
 run-requires : tie.Need-run-requires

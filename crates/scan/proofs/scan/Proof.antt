@@ -15,7 +15,7 @@ returns-2 c =
     let w = c .before .before .before in
     let s = w .before in
     c .refusal2 .ensures
-    ∙ alone-wrong _ _ _ _ _ (s .before .if1 .left) (s .shape .ensures) (sym (w .is-wrong .ensures) ∙ c .before .before .if2 .taken) (c .before .place-of .ensures)
+    ∙ alone-wrong _ _ _ _ _ (s .before .if1 .left) (s .shape .ensures) (sym (w .is-wrong .ensures) ∙ c .before .before .if2 .taken) (c .before .verdict-place .ensures)
 
 class-row-requires : tie.Need-class-row-requires
 class-row-requires c κs =

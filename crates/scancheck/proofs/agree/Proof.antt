@@ -1,4 +1,3 @@
-use Prim.Native.Nat.{_-_}
 use Rattle.conditions.specs.Tests.{implies, same}
 use Rattle.scancheck.proofs.agree.Statement.{statement}
 use Rattle.scancheck.proofs.agree.Tie as tie

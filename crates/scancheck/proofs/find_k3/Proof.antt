@@ -1,5 +1,4 @@
 use borrow.Author.Needs.{needs}
-use Prim.Native.Nat.{_-_}
 use Rattle.conditions.specs.Check.{told}
 use Rattle.scancheck.proofs.find_k3.Statement.{statement}
 use Rattle.scancheck.proofs.find_k3.Tie as tie

@@ -7,7 +7,7 @@ use native.Mathlib.Nat.{not-suc-le-zero}
 use lib.Bits.{bitOr}
 use borrow.Author.Count.{below-more}
 use Rattle.sets.specs.Sets.{member}
-use Rattle.pack.specs.Image.{terminals, rej, acc}
+use Rattle.pack.specs.Image.{terminals, rej}
 use Rattle.conditions.proofs.TestLaws.{all-true, all-false}
 use Rattle.conditions.specs.Conditions.{matched, outranked, k1}
 use Rattle.conditions.specs.Tests.{same}

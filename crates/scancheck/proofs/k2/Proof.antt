@@ -5,8 +5,7 @@ use Prim.Native.Nat.{ℕ, _-_, _≤_, _<_}
 use native.Mathlib.Omega.{arith}
 use native.Mathlib.Nat.{not-suc-le-zero}
 use lib.Bits.{bitOr}
-use Rattle.sets.specs.Sets.{subset}
-use Rattle.pack.specs.Image.{classes, rej, acc, poss, move}
+use Rattle.pack.specs.Image.{classes, move}
 use Rattle.shape.proofs.Good.{good-move}
 use Rattle.conditions.specs.Conditions.{within, k2}
 use Rattle.scancheck.proofs.Laws.{move-test, k2-out, k2-fails, k2-holds}

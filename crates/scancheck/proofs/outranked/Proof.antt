@@ -1,8 +1,6 @@
 use borrow.Author.Needs.{needs}
 use mathlib.Core.Path.{sym, _∙_}
 use mathlib.Core.Bool.{_&&_}
-use Prim.Native.Nat.{_-_}
-use Rattle.sets.specs.Sets.{member}
 use Rattle.conditions.specs.Conditions.{outranked}
 use Rattle.scancheck.proofs.outranked.Statement.{statement}
 use Rattle.scancheck.proofs.outranked.Tie as tie

@@ -1,8 +1,5 @@
 use borrow.Author.Needs.{needs}
 use mathlib.Core.Path.{sym, _∙_}
-use Prim.Native.Nat.{_-_}
-use Rattle.sets.specs.Sets.{several}
-use Rattle.pack.specs.Image.{acc}
 use Rattle.conditions.specs.Tests.{implies}
 use Rattle.conditions.specs.Conditions.{settled}
 use Rattle.scancheck.proofs.settled.Statement.{statement}

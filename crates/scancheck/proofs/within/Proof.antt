@@ -1,7 +1,4 @@
 use borrow.Author.Needs.{needs}
-use Prim.Native.Nat.{_-_}
-use Rattle.sets.specs.Sets.{subset}
-use Rattle.pack.specs.Image.{poss}
 use Rattle.conditions.specs.Conditions.{within}
 use Rattle.scancheck.proofs.Laws.{within-state}
 use Rattle.scancheck.proofs.within.Statement.{statement}

@@ -1,5 +1,4 @@
 use borrow.Author.Needs.{needs}
-use mathlib.Core.Path.{sym, _∙_}
 use native.Mathlib.Omega.{arith}
 use Rattle.shape.specs.Rows.{rowsOf}
 use Rattle.shape.proofs.Laws.{parser-1, parser-2, parser-3, parser-4, parser-5}
@@ -7,7 +6,7 @@ use Rattle.shape.proofs.parser_rules.Statement.{statement}
 use Rattle.shape.proofs.parser_rules.Tie as tie
 
 returns : tie.Need-returns
-returns c = parser-1 _ (c .before .before .layout-rule .ensures) (sym (c .before .is-wrong .ensures) ∙ c .if1 .taken)
+returns c = parser-1 _ (c .before .before .layout-rule .ensures) (c .before .is-wrong .ensures) (c .if1 .taken)
 
 rows-requires : tie.Need-rows-requires
 unfolding rowsOf
@@ -17,8 +16,8 @@ returns-2 : tie.Need-returns-2
 returns-2 c =
     let b = c .before .before in
     let a = b .before .before in
-    parser-2 _ (a .before .before .layout-rule .ensures) (sym (a .before .is-wrong .ensures) ∙ a .if1 .left) (b .rows .ensures) (b .before .terminals .ensures)
-    (sym (c .before .is-wrong2 .ensures) ∙ c .if2 .taken)
+    parser-2 _ (a .before .before .layout-rule .ensures) (a .before .is-wrong .ensures) (a .if1 .left) (b .rows .ensures) (b .before .terminals .ensures)
+    (c .before .is-wrong2 .ensures) (c .if2 .taken)
 
 rows-requires-2 : tie.Need-rows-requires-2
 unfolding rowsOf
@@ -30,8 +29,8 @@ returns-3 c =
     let i = d .before .before in
     let b = i .before .before in
     let a = b .before .before in
-    parser-3 _ (a .before .before .layout-rule .ensures) (sym (a .before .is-wrong .ensures) ∙ a .if1 .left) (b .rows .ensures) (b .before .terminals .ensures)
-    (sym (i .before .is-wrong2 .ensures) ∙ i .if2 .left) (d .rows2 .ensures) (d .before .productions .ensures) (sym (c .before .is-wrong3 .ensures) ∙ c .if3 .taken)
+    parser-3 _ (a .before .before .layout-rule .ensures) (a .before .is-wrong .ensures) (a .if1 .left) (b .rows .ensures) (b .before .terminals .ensures)
+    (i .before .is-wrong2 .ensures) (i .if2 .left) (d .rows2 .ensures) (d .before .productions .ensures) (c .before .is-wrong3 .ensures) (c .if3 .taken)
 
 returns-4 : tie.Need-returns-4
 returns-4 c =
@@ -41,9 +40,9 @@ returns-4 c =
     let i = d .before .before in
     let b = i .before .before in
     let a = b .before .before in
-    parser-4 _ (a .before .before .layout-rule .ensures) (sym (a .before .is-wrong .ensures) ∙ a .if1 .left) (b .rows .ensures) (b .before .terminals .ensures)
-    (sym (i .before .is-wrong2 .ensures) ∙ i .if2 .left) (d .rows2 .ensures) (d .before .productions .ensures) (sym (j .before .is-wrong3 .ensures) ∙ j .if3 .left)
-    (f .acts .ensures) (sym (c .before .is-wrong4 .ensures) ∙ c .if4 .taken)
+    parser-4 _ (a .before .before .layout-rule .ensures) (a .before .is-wrong .ensures) (a .if1 .left) (b .rows .ensures) (b .before .terminals .ensures)
+    (i .before .is-wrong2 .ensures) (i .if2 .left) (d .rows2 .ensures) (d .before .productions .ensures) (j .before .is-wrong3 .ensures) (j .if3 .left)
+    (f .acts .ensures) (c .before .is-wrong4 .ensures) (c .if4 .taken)
 
 returns-5 : tie.Need-returns-5
 returns-5 c =
@@ -54,9 +53,9 @@ returns-5 c =
     let i = d .before .before in
     let b = i .before .before in
     let a = b .before .before in
-    parser-5 _ (a .before .before .layout-rule .ensures) (sym (a .before .is-wrong .ensures) ∙ a .if1 .left) (b .rows .ensures) (b .before .terminals .ensures)
-    (sym (i .before .is-wrong2 .ensures) ∙ i .if2 .left) (d .rows2 .ensures) (d .before .productions .ensures) (sym (j .before .is-wrong3 .ensures) ∙ j .if3 .left)
-    (f .acts .ensures) (sym (k .before .is-wrong4 .ensures) ∙ k .if4 .left) (c .gotos .ensures)
+    parser-5 _ (a .before .before .layout-rule .ensures) (a .before .is-wrong .ensures) (a .if1 .left) (b .rows .ensures) (b .before .terminals .ensures)
+    (i .before .is-wrong2 .ensures) (i .if2 .left) (d .rows2 .ensures) (d .before .productions .ensures) (j .before .is-wrong3 .ensures) (j .if3 .left)
+    (f .acts .ensures) (k .before .is-wrong4 .ensures) (k .if4 .left) (c .gotos .ensures)
 
 pub parser-rules-spec : {M : Type 1} → statement M
 parser-rules-spec =

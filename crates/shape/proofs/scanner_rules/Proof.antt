@@ -1,5 +1,4 @@
 use borrow.Author.Needs.{needs}
-use mathlib.Core.Path.{sym, _∙_}
 use native.Mathlib.Omega.{arith}
 use Rattle.shape.specs.Rows.{rowsOf}
 use Rattle.shape.proofs.Laws.{scanner-1, scanner-2, scanner-3, scanner-4}
@@ -13,15 +12,15 @@ rows-requires c κs = (search needs, omega (arith, c .ranges .ensures))
 returns : tie.Need-returns
 returns c =
     let a = c .before .before in
-    scanner-1 _ (a .rows .ensures) (a .before .ranges .ensures) (sym (c .before .is-wrong .ensures) ∙ c .if1 .taken)
+    scanner-1 _ (a .rows .ensures) (a .before .ranges .ensures) (c .before .is-wrong .ensures) (c .if1 .taken)
 
 returns-2 : tie.Need-returns-2
 returns-2 c =
     let b = c .before .before in
     let i = b .before in
     let a = i .before .before in
-    scanner-2 _ (a .rows .ensures) (a .before .ranges .ensures) (sym (i .before .is-wrong .ensures) ∙ i .if1 .left) (b .moves .ensures)
-    (sym (c .before .is-wrong2 .ensures) ∙ c .if2 .taken)
+    scanner-2 _ (a .rows .ensures) (a .before .ranges .ensures) (i .before .is-wrong .ensures) (i .if1 .left) (b .moves .ensures)
+    (c .before .is-wrong2 .ensures) (c .if2 .taken)
 
 rows-requires-2 : tie.Need-rows-requires-2
 unfolding rowsOf
@@ -34,8 +33,8 @@ returns-3 c =
     let b = j .before .before in
     let i = b .before in
     let a = i .before .before in
-    scanner-3 _ (a .rows .ensures) (a .before .ranges .ensures) (sym (i .before .is-wrong .ensures) ∙ i .if1 .left) (b .moves .ensures)
-    (sym (j .before .is-wrong2 .ensures) ∙ j .if2 .left) (d .rows2 .ensures) (d .before .scan-states .ensures) (sym (c .before .is-wrong3 .ensures) ∙ c .if3 .taken)
+    scanner-3 _ (a .rows .ensures) (a .before .ranges .ensures) (i .before .is-wrong .ensures) (i .if1 .left) (b .moves .ensures)
+    (j .before .is-wrong2 .ensures) (j .if2 .left) (d .rows2 .ensures) (d .before .scan-states .ensures) (c .before .is-wrong3 .ensures) (c .if3 .taken)
 
 rows-requires-3 : tie.Need-rows-requires-3
 unfolding rowsOf
@@ -49,8 +48,8 @@ returns-4 c =
     let b = j .before .before in
     let i = b .before in
     let a = i .before .before in
-    scanner-4 _ (a .rows .ensures) (a .before .ranges .ensures) (sym (i .before .is-wrong .ensures) ∙ i .if1 .left) (b .moves .ensures)
-    (sym (j .before .is-wrong2 .ensures) ∙ j .if2 .left) (d .rows2 .ensures) (d .before .scan-states .ensures) (sym (k .before .is-wrong3 .ensures) ∙ k .if3 .left)
+    scanner-4 _ (a .rows .ensures) (a .before .ranges .ensures) (i .before .is-wrong .ensures) (i .if1 .left) (b .moves .ensures)
+    (j .before .is-wrong2 .ensures) (j .if2 .left) (d .rows2 .ensures) (d .before .scan-states .ensures) (k .before .is-wrong3 .ensures) (k .if3 .left)
     (c .rows3 .ensures) (c .before .groups .ensures)
 
 pub scanner-rules-spec : {M : Type 1} → statement M

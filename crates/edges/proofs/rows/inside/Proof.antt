@@ -1,4 +1,3 @@
-use Prim.Native.Nat.{_-_}
 use Rattle.edges.proofs.RowLaws as laws
 use Rattle.edges.proofs.rows.inside.Statement.{statement}
 use Rattle.edges.proofs.rows.inside.Tie as tie

@@ -1,6 +1,5 @@
 use borrow.Author.Needs.{needs}
 use mathlib.Core.Path.{refl, sym, _∙_}
-use Prim.Native.Nat.{_-_}
 use Rattle.conditions.proofs.TestLaws.{false-true}
 use Rattle.edges.proofs.rows.part.Statement.{statement}
 use Rattle.edges.proofs.rows.part.Tie as tie

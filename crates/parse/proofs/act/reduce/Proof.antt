@@ -2,7 +2,7 @@ use borrow.Author.Needs.{needs}
 use mathlib.Core.Path.{refl, sym}
 use Prim.Native.Nat.{_-_}
 use native.Mathlib.Omega.{arith}
-use Rattle.parse.proofs.ActLaws.{kept-ends, reduce-short, reduce-stuck, reduce-no-room, reduce-full, reduce-goes}
+use Rattle.parse.proofs.ActLaws.{not-full, room-for, kept-ends, reduce-short, reduce-stuck, reduce-full, reduce-goes}
 use Rattle.shape.proofs.GoodParser.{good-lhs, reduce-to}
 use Rattle.parse.proofs.act.reduce.Statement.{statement}
 use Rattle.parse.proofs.act.reduce.Tie as tie
@@ -32,18 +32,6 @@ returns-2 c =
 
 returns-3 : tie.Need-returns-3
 returns-3 c =
-    let j = c .before .before in
-    let g = j .before in
-    let l = g .before .before in
-    let i = l .before .before .before in
-    let n = i .before .before in
-    let p = n .before .before .before .pre in (
-      reduce-no-room _ _ _ _ _ (p .1 .1 .0) (p .1 .1 .1 .0) _ (n .len .ensures) (i .if1 .left) (g .before .wide .ensures) (l .lhs .ensures) (g .goto .ensures) (j .if2 .left) (c .before .if3 .taken) (c .ending3 .ensures),
-      kept-ends _ _ _ _ _ (p .1 .1 .0) (p .1 .1 .1 .0) (c .ending3 .ensures) _,
-    )
-
-returns-4 : tie.Need-returns-4
-returns-4 c =
     let f = c .before .before in
     let j = f .before in
     let g = j .before in
@@ -51,8 +39,8 @@ returns-4 c =
     let i = l .before .before .before in
     let n = i .before .before in
     let p = n .before .before .before .pre in (
-      reduce-full _ _ _ _ _ (p .1 .1 .0) (p .1 .1 .1 .0) _ (n .len .ensures) (i .if1 .left) (g .before .wide .ensures) (l .lhs .ensures) (g .goto .ensures) (j .if2 .left) (f .if3 .left) (c .before .if4 .taken) (c .ending4 .ensures),
-      kept-ends _ _ _ _ _ (p .1 .1 .0) (p .1 .1 .1 .0) (c .ending4 .ensures) _,
+      reduce-full _ _ _ _ _ (p .1 .1 .0) (p .1 .1 .1 .0) _ (n .len .ensures) (i .if1 .left) (g .before .wide .ensures) (l .lhs .ensures) (g .goto .ensures) (j .if2 .left) (f .full .ensures) (c .before .if3 .taken) (c .ending3 .ensures),
+      kept-ends _ _ _ _ _ (p .1 .1 .0) (p .1 .1 .1 .0) (c .ending3 .ensures) _,
     )
 
 add-narrow : tie.Need-add-narrow
@@ -69,6 +57,13 @@ narrow-requires c κs =
     let b = good-lhs _ (p .1 .0) _ (p .1 .1 .1 .1) in
     omega (arith, l .lhs .ensures, b, p .0 .sized .n-most)
 
+put-requires : tie.Need-put-requires
+put-requires c κs =
+    let h = c .before .before .before .before in
+    let f = h .before in
+    let i = f .before .before .before .before .before .before .before in
+    room-for _ _ _ _ (f .full .ensures) (h .if3 .left) (i .before .before .before .before .before .pre .1 .1 .1 .0)
+
 narrow-requires-4 : tie.Need-narrow-requires-4
 narrow-requires-4 c κs =
     let g = c .before .before .before .before .before .before .before .before .before .before in
@@ -78,8 +73,25 @@ narrow-requires-4 c κs =
     let b = reduce-to _ (p .1 .0) (rw w (p .1 .1 .0 .each _)) (rw (l .lhs .ensures) (good-lhs _ (p .1 .0) _ (p .1 .1 .1 .1))) (g .goto .ensures) in
     omega (arith, b, p .0 .sized .s-most)
 
-returns-5 : tie.Need-returns-5
-returns-5 c =
+sub-stack-2 : tie.Need-sub-stack-2
+sub-stack-2 c =
+    let h = c .before .before .before .before .before .before .before .before in
+    omega (arith, not-full _ _ _ (h .before .full .ensures) (h .if3 .left) .1)
+
+add-going : tie.Need-add-going
+add-going c =
+    let h = c .before .before .before .before .before .before .before .before in
+    omega (arith, not-full _ _ _ (h .before .full .ensures) (h .if3 .left) .1)
+
+add-going-2 : tie.Need-add-going-2
+add-going-2 c =
+    let h = c .before .before .before .before .before .before .before .before in
+    let f = h .before in
+    let i = f .before .before .before .before .before .before .before in
+    omega (arith, not-full _ _ _ (f .full .ensures) (h .if3 .left) .0, i .before .before .before .before .before .pre .1 .1 .1 .0 .most)
+
+returns-4 : tie.Need-returns-4
+returns-4 c =
     let n4 = c .before in
     let t = n4 .before .before .before in
     let n3 = t .before in
@@ -95,10 +107,11 @@ returns-5 c =
     let p = n .before .before .before .pre in
     let w = g .before .wide .ensures in
     let b = reduce-to _ (p .1 .0) (rw w (p .1 .1 .0 .each _)) (rw (l .lhs .ensures) (good-lhs _ (p .1 .0) _ (p .1 .1 .1 .1))) (g .goto .ensures) in
+    let fits = not-full _ _ _ (f .full .ensures) (h .if3 .left) in
     reduce-goes _ _ _ _ _ (p .1 .1 .0) (p .1 .1 .1 .0) _ (n .len .ensures) (i .if1 .left) w (l .lhs .ensures) (g .goto .ensures) (j .if2 .left)
-    (f .if3 .left) (h .if4 .left) (n4 .narrow4 .ensures) b (n1 .narrow .ensures) (n2 .narrow2 .ensures) (n3 .narrow3 .ensures) refl (rw (sym w) at (t .put .ensures)) (c .going .ensures)
+    (fits .0) (fits .1) (n4 .narrow4 .ensures) b (n1 .narrow .ensures) (n2 .narrow2 .ensures) (n3 .narrow3 .ensures) refl (rw (sym w) at (t .put .ensures)) (c .going .ensures)
 
 pub reduce-spec : {M : Type 1} → statement M
 reduce-spec =
     tie.close
-    (tie.spec (λ c κs. search needs) (λ c κs. search needs) returns (λ c. search needs) (λ c. search needs) (λ c. search needs) (λ c. search needs) (λ c κs. search needs) (λ c κs. search needs) goto-requires (λ c κs. search needs) returns-2 (λ c κs. search needs) returns-3 (λ c κs. search needs) returns-4 (λ c. search needs) add-narrow narrow-requires (λ c κs. search needs) (λ c κs. search needs) (λ c κs. search needs) (λ c. search needs) narrow-requires-4 (λ c. search needs) (λ c. search needs) (λ c. search needs) (λ c. search needs) (λ c. search needs) (λ c κs. search needs) (λ c. search needs) returns-5)
+    (tie.spec (λ c κs. search needs) (λ c κs. search needs) returns (λ c. search needs) (λ c. search needs) (λ c. search needs) (λ c. search needs) (λ c κs. search needs) (λ c κs. search needs) goto-requires (λ c κs. search needs) returns-2 (λ c κs. search needs) (λ c κs. search needs) returns-3 (λ c. search needs) add-narrow narrow-requires (λ c κs. search needs) (λ c κs. search needs) put-requires (λ c. search needs) narrow-requires-4 (λ c. search needs) sub-stack-2 (λ c. search needs) (λ c. search needs) add-going add-going-2 (λ c κs. search needs) (λ c. search needs) returns-4)

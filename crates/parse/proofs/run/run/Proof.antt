@@ -29,7 +29,7 @@ turn-requires c κs =
     let k = l .before .before in
     let p = k .before .before .before .before .pre in
     let v = l .loop .inv in
-    (record { laid = good-laid _ (p .0); good = p .0; classed = k .class-row .ensures }, (p .1, (v .stacked, (v .sets, (v .roomy, v .within)))))
+    (k .class-row .ensures, (p .1, (v .stacked, (v .sets, (v .roomy, v .within)))))
 
 finish-requires : tie.Need-finish-requires Inv-loop μ-loop
 finish-requires c κs =

@@ -1,11 +1,11 @@
 use borrow.Author.Needs.{needs}
-use mathlib.Core.Path.{_≡_, refl, sym, ap, _∙_}
+use mathlib.Core.Path.{_≡_}
 use Prim.Native.Nat.{ℕ, _+_, _*_, _<_, _≤_, _-_}
 use native.Mathlib.Omega.{arith}
 use native.Mathlib.Nat.{not-suc-le-zero, zero-add}
 use borrow.Author.Count.{below-more}
 use Rattle.shape.specs.declared.Verdict.the-variants.{Good}
-use Rattle.shape.specs.declared.rules.Table.the-variants.{Act}
+use Rattle.shape.specs.declared.tables.Ruled.the-variants.{Act}
 use Rattle.pack.specs.Image.{terminals, productions, states, actStart, layout}
 use Rattle.shape.specs.Quick.{Free}
 use Rattle.shape.specs.Rows.{rowRule}

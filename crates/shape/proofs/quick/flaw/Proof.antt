@@ -1,5 +1,4 @@
 use borrow.Author.Needs.{needs}
-use mathlib.Core.Path.{_≡_}
 use native.Mathlib.Omega.{arith}
 use Rattle.shape.proofs.quick.flaw.Statement.{statement}
 use Rattle.shape.proofs.quick.flaw.Tie as tie

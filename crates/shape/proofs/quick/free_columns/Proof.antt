@@ -1,5 +1,5 @@
 use borrow.Author.Needs.{needs}
-use mathlib.Core.Path.{_≡_, refl, sym, _∙_}
+use mathlib.Core.Path.{_≡_, refl, _∙_}
 use mathlib.Core.Bool.{true}
 use Prim.Native.Nat.{ℕ, _<_, _≤_, _-_}
 use native.Mathlib.Omega.{arith}
@@ -8,14 +8,15 @@ use borrow.Author.Count.{below-more}
 use lib.ListN.{length, getD, length-set}
 use lib.Seq.{getD-set-same, getD-set-other}
 use Rattle.sets.specs.Sets.{member}
+use Rattle.pack.specs.Image.{mostTerminals}
 use Rattle.shape.proofs.quick.free_columns.Statement.{statement}
 use Rattle.shape.proofs.quick.free_columns.Tie as tie
 
 abbrev Inv-loop : tie.InvT-loop
-Inv-loop layout free₀ t₀ free t = (t ≤ 64) × (length free ≡ 64) × ((j : ℕ) → j < t → member layout j ≡ true → getD free j 0 ≡ 0)
+Inv-loop layout free₀ t₀ free t = (t ≤ mostTerminals) × (length free ≡ mostTerminals) × ((j : ℕ) → j < t → member layout j ≡ true → getD free j 0 ≡ 0)
 
 abbrev μ-loop : tie.MeasureT-loop
-μ-loop layout free₀ t₀ free t = 64 - t
+μ-loop layout free₀ t₀ free t = mostTerminals - t
 
 loop-holds : tie.Need-loop-holds Inv-loop μ-loop
 loop-holds c = (search needs, refl, λ j l. absurd (not-suc-le-zero l))

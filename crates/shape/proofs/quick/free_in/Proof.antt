@@ -1,12 +1,11 @@
 use borrow.Author.Needs.{needs}
-use mathlib.Core.Path.{_≡_, sym, _∙_}
-use Prim.Native.Nat.{ℕ}
-use native.Mathlib.Omega.{arith}
+use mathlib.Core.Path.{sym, _∙_}
+use Rattle.shape.proofs.Sound.{not-true}
 use Rattle.shape.proofs.quick.free_in.Statement.{statement}
 use Rattle.shape.proofs.quick.free_in.Tie as tie
 
 returns-2 : tie.Need-returns-2
-returns-2 c = λ e. let z : _≡_ {A = ℕ} 0 1 = cc (c .before .member .ensures, c .if1 .left) in absurd (omega arith)
+returns-2 c = λ e. not-true (sym (c .if1 .left) ∙ (c .before .member .ensures ∙ e))
 
 pub free-in-spec : {M : Type 1} → statement M
 free-in-spec =

@@ -1,0 +1,287 @@
+-- Laws of the tests of K4, K5 and K6, as the code comes by them. Assumes nothing.
+use mathlib.Core.Path.{_≡_, refl, sym, ap, ap₂, _∙_}
+use mathlib.Core.Bool.{Bool, true, false, _&&_}
+use mathlib.Core.List.{List}
+use Prim.Native.Nat.{ℕ, zero, suc, _+_, _-_, _<_, _≤_}
+use native.Mathlib.Numerals.{add-one}
+use native.Mathlib.Omega.{arith}
+use lib.Dec.{eqb, leb, ltb}
+use lib.ListN.{length}
+use lib.Arith.{lt-of-le-ne}
+use borrow.Author.Tests.{eq-eqb, ne-eqb, le-leb, lt-leb, lt-ltb, eqb-true, leb-true, leb-false, ltb-true}
+use Rattle.pack.specs.Image.{nonterminals, productions, states, lhs, len, symbol, act, goto}
+use Rattle.pack.specs.Laid.{Laid}
+use Rattle.conditions.specs.Tests.{allBelow, someBelow, implies}
+use Rattle.conditions.specs.Edges.{symbols, leads, enters, onlyOn, reached}
+use Rattle.conditions.specs.Conditions.{k4, reduces, steps, ends, k5, fromStart, k6}
+use Rattle.conditions.proofs.TestLaws.{alike, false-true, and-left, and-right, and-both, implies-gives, implies-all, all-each, all-true, all-false, some-one, some-true, some-false}
+use Rattle.conditions.proofs.EdgeLaws.{enters-by, edge-on}
+use Rattle.edges.specs.Rows.{bitAt, either, allIn, onlyIn, First, Put, joined, Made}
+use Rattle.edges.specs.Tables.{Sources, Carried, Reducers, Goers}
+use Rattle.edges.proofs.RowLaws.{some-same}
+use Rattle.parsecheck.specs.Walked.{Walked}
+
+only-eq : (img : List ℕ) (x v : ℕ) → onlyOn img x v ≡ true → (y : ℕ) → y < symbols img → enters img v y ≡ true → y ≡ x
+unfolding onlyOn
+only-eq img x v o y l g = eqb-true y x (implies-gives (enters img v y) (eqb y x) (all-each (symbols img) (λ y. implies (enters img v y) (eqb y x)) o y l) g)
+
+-- What the symbols on edges in say, as a test of the pack.
+module _ (img : List ℕ) (laid : Laid img) {on : List ℕ} (carried : Carried img (states img) on) where
+  entered : (v y : ℕ) → enters img v y ≡ true → y < symbols img
+  entered v y f = edge-on img (laid .sized .t-most) (enters-by img (laid .sized .t-most) f .1)
+
+  pub on-only : (v x : ℕ) → v < 128 → onlyIn on v x ≡ onlyOn img x v
+  unfolding allIn onlyOn enters
+  on-only v x lv =
+      alike (allBelow 128 (λ y. implies (bitAt on v y) (eqb y x))) (allBelow (symbols img) (λ y. implies (enters img v y) (eqb y x)))
+      (λ e. all-true (symbols img) (λ y. implies (enters img v y) (eqb y x)) (λ y l. rw (carried .each v y lv (few y l)) at (all-each 128 (λ y. implies (bitAt on v y) (eqb y x)) e y (few y l))))
+      (λ e. all-true 128 (λ y. implies (bitAt on v y) (eqb y x)) (λ y l. implies-all (bitAt on v y) (eqb y x) (λ b.
+      let f = sym (carried .each v y lv l) ∙ b in
+      implies-gives (enters img v y) (eqb y x) (all-each (symbols img) (λ y. implies (enters img v y) (eqb y x)) e y (entered v y f)) f)))
+    where
+      few : (y : ℕ) → y < symbols img → y < 128
+      few y l = omega (arith, laid .sized .n-most)
+
+  -- K4.
+  module _ (v x : ℕ) (lv : v < states img) (first : First on v x) where
+    pub k4-none : x ≡ 128 → true ≡ k4 img v
+    unfolding k4 enters
+    k4-none e = sym (all-true (symbols img) (λ y. implies (enters img v y) (leb 1 v && onlyOn img y v)) (λ y l. implies-all (enters img v y) (leb 1 v && onlyOn img y v) (λ f.
+        let few : y < 128 = omega (arith, laid .sized .n-most) in
+        false-true (sym (first .none e y few) ∙ carried .each v y (omega (arith, laid .sized .s-most)) few ∙ f))))
+
+    there : (x ≡ 128 → ⊥) → enters img v x ≡ true
+    unfolding enters
+    there n =
+        let l : x < 128 = omega (arith, lt-of-le-ne (first .most) n) in
+        sym (carried .each v x (omega (arith, laid .sized .s-most)) l) ∙ first .there l
+
+    pub k4-start : (x ≡ 128 → ⊥) → v ≡ 0 → false ≡ k4 img v
+    unfolding k4 implies
+    k4-start n e =
+        let f = there n in
+        let z : leb 1 v ≡ false = lt-leb 1 v (omega arith) in
+        sym (all-false (symbols img) (λ y. implies (enters img v y) (leb 1 v && onlyOn img y v)) x (entered v x f) (rw (f, z)))
+
+    pub k4-only : {r : Bool} → (x ≡ 128 → ⊥) → (v ≡ 0 → ⊥) → r ≡ onlyIn on v x → r ≡ k4 img v
+    unfolding k4
+    k4-only n m er =
+        let f = there n in
+        er ∙ on-only v x (omega (arith, laid .sized .s-most))
+        ∙ alike (onlyOn img x v) (allBelow (symbols img) (λ y. implies (enters img v y) (leb 1 v && onlyOn img y v)))
+        (λ o. all-true (symbols img) (λ y. implies (enters img v y) (leb 1 v && onlyOn img y v)) (λ y l. implies-all (enters img v y) (leb 1 v && onlyOn img y v) (λ g.
+        let z : y ≡ x = same-one o y l g in
+        and-both (leb 1 v) (onlyOn img y v) (le-leb 1 v (some v m)) (rw z o))))
+        (λ a. and-right (leb 1 v) (onlyOn img x v) (implies-gives (enters img v x) (leb 1 v && onlyOn img x v) (all-each (symbols img) (λ y. implies (enters img v y) (leb 1 v && onlyOn img y v)) a x (entered v x f)) f))
+      where
+        some : (n : ℕ) → (n ≡ 0 → ⊥) → 1 ≤ n
+        some zero h = absurd (h refl)
+        some (suc n) h = omega arith
+
+        same-one : onlyOn img x v ≡ true → (y : ℕ) → y < symbols img → enters img v y ≡ true → y ≡ x
+        same-one o y l g = only-eq img x v o y l g
+
+-- The sources of the edges into s are 0 alone.
+pub from-only : (img : List ℕ) → Laid img → {from : List ℕ} → Sources img (states img) from → (s : ℕ) → s < 128 → onlyIn from s 0 ≡ fromStart img s
+unfolding allIn fromStart
+from-only img laid {from} sources s ls =
+    alike (allBelow 128 (λ y. implies (bitAt from s y) (eqb y 0))) (allBelow (states img) (λ r. implies (leads img r s) (eqb r 0)))
+    (λ e. all-true (states img) (λ r. implies (leads img r s) (eqb r 0)) (λ r l. implies-all (leads img r s) (eqb r 0) (λ f.
+    implies-gives (bitAt from s r) (eqb r 0) (all-each 128 (λ y. implies (bitAt from s y) (eqb y 0)) e r (few r l))
+    (sources .each s r ls (few r l) ∙ and-both (ltb r (states img)) (leads img r s) (lt-ltb r (states img) l) f))))
+    (λ e. all-true 128 (λ y. implies (bitAt from s y) (eqb y 0)) (λ r l. implies-all (bitAt from s r) (eqb r 0) (λ b.
+    let f = sym (sources .each s r ls l) ∙ b in
+    implies-gives (leads img r s) (eqb r 0) (all-each (states img) (λ r. implies (leads img r s) (eqb r 0)) e r (ltb-true r (states img) (and-left (ltb r (states img)) (leads img r s) f)))
+    (and-right (ltb r (states img)) (leads img r s) f))))
+  where
+    few : (r : ℕ) → r < states img → r < 128
+    few r l = omega (arith, laid .sized .s-most)
+
+-- K6.
+module _ (img : List ℕ) (laid : Laid img) {from on : List ℕ} (sources : Sources img (states img) from) (carried : Carried img (states img) on) (s : ℕ) (ls : s < states img) {a : ℕ} (ea : a ≡ act img s 0) where
+  few : s < 128
+  few = omega (arith, laid .sized .s-most)
+
+  pub k6-none : (a ≡ 1 → ⊥) → true ≡ k6 img s
+  unfolding k6 implies
+  k6-none n = sym (rw (ne-eqb (act img s 0) 1 (λ z. n (ea ∙ z))))
+
+  accepts : a ≡ 1 → eqb (act img s 0) 1 ≡ true
+  accepts e = eq-eqb (act img s 0) 1 (sym ea ∙ e)
+
+  pub k6-start : a ≡ 1 → s ≡ 0 → false ≡ k6 img s
+  unfolding k6 implies
+  k6-start e z = sym (rw (accepts e, lt-leb 1 s (omega arith)))
+
+  not-zero : (s ≡ 0 → ⊥) → leb 1 s ≡ true
+  not-zero n = go s n
+    where
+      go : (m : ℕ) → (m ≡ 0 → ⊥) → leb 1 m ≡ true
+      go zero h = absurd (h refl)
+      go (suc m) h = le-leb 1 (suc m) (omega arith)
+
+  pub k6-symbol : {r : Bool} → a ≡ 1 → (s ≡ 0 → ⊥) → r ≡ onlyIn on s 64 → r ≡ false → false ≡ k6 img s
+  unfolding k6 implies
+  k6-symbol e n er f = sym (rw (accepts e, not-zero n, sym (on-only img laid carried s 64 few) ∙ sym er ∙ f))
+
+  pub k6-from : {q r : Bool} → a ≡ 1 → (s ≡ 0 → ⊥) → q ≡ onlyIn on s 64 → q ≡ true → r ≡ onlyIn from s 0 → r ≡ k6 img s
+  unfolding k6 implies
+  k6-from e n eq f er =
+      er ∙ from-only img laid sources s few
+      ∙ sym (rw (accepts e, not-zero n, sym (on-only img laid carried s 64 few) ∙ sym eq ∙ f))
+
+-- The walk back, step by step.
+module _ (img : List ℕ) (laid : Laid img) (s : ℕ) (ls : s < states img) where
+  small : (u : ℕ) → u < states img → u < 128
+  small u l = omega (arith, laid .sized .s-most)
+
+  pub walked-start : {row after into : List ℕ} → length row ≡ 256 → length into ≡ 256 → ((u : ℕ) → u < 128 → bitAt row 0 u ≡ false) → Put row 1 s after → Walked img s 0 after into
+  unfolding reached either
+  walked-start {row} {after} {into} long long′ none p = record {
+    size = p .size ∙ long;
+    into-size = long′;
+    each = λ i u li lu. go i u li lu (eqb u s) refl;
+    symbols = λ i x l lx. absurd (omega arith);
+  }
+    where
+      go : (i u : ℕ) → i ≤ 0 → u < 128 → (b : Bool) → eqb u s ≡ b → bitAt after i u ≡ (ltb u (states img) && reached img s i u)
+      go zero u li lu true e =
+          let z : u ≡ s = eqb-true u s e in
+          p .each 0 u (omega arith) lu ∙ rw (none u lu, e, z, lt-ltb s (states img) ls)
+      go zero u li lu false e = p .each 0 u (omega arith) lu ∙ rw (none u lu, e) (sym (no-one (ltb u (states img))))
+        where
+          no-one : (x : Bool) → (x && false) ≡ false
+          no-one true = refl
+          no-one false = refl
+      go (suc i) u li lu b e = absurd (omega arith)
+
+  pub walked-less : {d i : ℕ} {back into : List ℕ} → i ≤ d → Walked img s d back into → Walked img s i back into
+  walked-less l w = record { size = w .size; into-size = w .into-size; each = λ j u lj lu. w .each j u (omega arith) lu; symbols = λ j x lj lx. w .symbols j x (omega arith) lx }
+
+  module _ {from on : List ℕ} (sources : Sources img (states img) from) (carried : Carried img (states img) on) {d : ℕ} {back into : List ℕ} (w : Walked img s d back into) where
+    here : (v : ℕ) → v < states img → bitAt back d v ≡ reached img s d v
+    here v lv = w .each d v (omega arith) (small v lv) ∙ rw (lt-ltb v (states img) lv)
+
+    both-ways : (a b : Bool) → (a && b) ≡ elim b as (λ x. Bool) [ true ↦ a | false ↦ false ]
+    both-ways true true = refl
+    both-ways true false = refl
+    both-ways false true = refl
+    both-ways false false = refl
+
+    stepped : (u : ℕ) → u < 128 → (b : Bool) → ltb u (states img) ≡ b → joined from back d (states img) u ≡ (ltb u (states img) && reached img s (d + 1) u)
+    unfolding joined reached
+    stepped u lu true e =
+        rw (e, add-one d)
+        (some-same (states img) (λ v. bitAt back d v && bitAt from v u) (λ v. elim (leads img u v) [ true ↦ reached img s d v | false ↦ false ])
+        (λ v lv. rw (here v lv, sources .each v u (small v lv) lu, e) (both-ways (reached img s d v) (leads img u v))))
+    stepped u lu false e = rw e (some-false (states img) (λ v. bitAt back d v && bitAt from v u) (λ v lv. rw (sources .each v u (small v lv) lu, e) (no-one (bitAt back d v))))
+      where
+        no-one : (x : Bool) → (x && false) ≡ false
+        no-one true = refl
+        no-one false = refl
+
+    collected : (x : ℕ) → x < 128 → joined on back d (states img) x ≡ someBelow (states img) (λ v. reached img s d v && enters img v x)
+    unfolding joined enters
+    collected x lx =
+        some-same (states img) (λ v. bitAt back d v && bitAt on v x) (λ v. reached img s d v && enters img v x)
+        (λ v lv. ap₂ (λ (a b : Bool). a && b) (here v lv) (carried .each v x (small v lv) lx))
+
+    pub walked-more : {back′ into′ : List ℕ} → Made into d (joined on back d (states img)) into′ → Made back (d + 1) (joined from back d (states img)) back′ → Walked img s (d + 1) back′ into′
+    walked-more {back′} {into′} m t = record {
+      size = t .size;
+      into-size = m .size;
+      each = λ i u li lu. go i u li lu (leb i d) refl;
+      symbols = λ i x li lx. on-go i x li lx (leb d i) refl;
+    }
+      where
+        go : (i u : ℕ) → i ≤ d + 1 → u < 128 → (b : Bool) → leb i d ≡ b → bitAt back′ i u ≡ (ltb u (states img) && reached img s i u)
+        go i u li lu true e = let l = leb-true i d e in t .kept i u (omega arith) lu ∙ w .each i u l lu
+        go i u li lu false e =
+            let z : i ≡ d + 1 = omega (arith, leb-false i d e) in
+            rw z (t .new u lu ∙ stepped u lu (ltb u (states img)) refl)
+
+        on-go : (i x : ℕ) → i < d + 1 → x < 128 → (b : Bool) → leb d i ≡ b → bitAt into′ i x ≡ someBelow (states img) (λ v. reached img s i v && enters img v x)
+        on-go i x li lx true e =
+            let z : i ≡ d = omega (arith, leb-true d i e) in
+            rw z (m .new x lx ∙ collected x lx)
+        on-go i x li lx false e = let l = leb-false d i e in m .kept i x (omega arith) lx ∙ w .symbols i x (omega arith) lx
+
+-- One step of production p, and the end, for a walk as deep as p is long.
+module _ (img : List ℕ) (laid : Laid img) (s p : ℕ) {back into : List ℕ} (w : Walked img s (len img p) back into) where
+  before : (i u : ℕ) → i ≤ len img p → u < states img → bitAt back i u ≡ reached img s i u
+  before i u li lu = w .each i u li (omega (arith, laid .sized .s-most)) ∙ rw (lt-ltb u (states img) lu)
+
+  module _ (i : ℕ) (li : i < len img p) where
+    one : ℕ → Bool
+    one u = implies (reached img s i u) (leb 1 u && onlyOn img (symbol img p (len img p - 1 - i)) u)
+
+    pub step-zero : {b : Bool} → b ≡ bitAt back i 0 → b ≡ true → false ≡ steps img s p i
+    unfolding steps implies
+    step-zero e f =
+        let least : 0 < states img = omega (arith, laid .sized .s-least) in
+        let r : reached img s i 0 ≡ true = sym (before i 0 (omega arith) least) ∙ sym e ∙ f in
+        sym (all-false (states img) (λ u. implies (reached img s i u) (leb 1 u && onlyOn img (symbol img p (len img p - 1 - i)) u)) 0 least (rw r))
+
+    pub step-only : {b r : Bool} {x n : ℕ} → b ≡ bitAt back i 0 → b ≡ false → r ≡ onlyIn into i x → x ≡ symbol img p (n - 1 - i) → n ≡ len img p → r ≡ steps img s p i
+    unfolding one steps allIn onlyOn
+    step-only {x = x} e f er ex en =
+        er ∙ alike (allBelow 128 (λ y. implies (bitAt into i y) (eqb y x))) (allBelow (states img) one) forth back′
+      where
+        x-is : x ≡ symbol img p (len img p - 1 - i)
+        x-is = ex ∙ ap (λ (k : ℕ). symbol img p (k - 1 - i)) en
+
+        no-start : (u : ℕ) → u < states img → reached img s i u ≡ true → 1 ≤ u
+        no-start zero lu r = false-true (sym f ∙ (e ∙ (before i 0 (omega arith) lu ∙ r)))
+        no-start (suc u) lu r = omega arith
+
+        forth : allBelow 128 (λ y. implies (bitAt into i y) (eqb y x)) ≡ true → allBelow (states img) one ≡ true
+        forth a = all-true (states img) one (λ u lu. implies-all (reached img s i u) (leb 1 u && onlyOn img (symbol img p (len img p - 1 - i)) u) (λ r.
+            and-both (leb 1 u) (onlyOn img (symbol img p (len img p - 1 - i)) u) (le-leb 1 u (no-start u lu r))
+            (all-true (symbols img) (λ y. implies (enters img u y) (eqb y (symbol img p (len img p - 1 - i)))) (λ y ly. implies-all (enters img u y) (eqb y (symbol img p (len img p - 1 - i))) (λ g.
+            let few : y < 128 = omega (arith, laid .sized .n-most) in
+            rw x-is at (implies-gives (bitAt into i y) (eqb y x) (all-each 128 (λ y. implies (bitAt into i y) (eqb y x)) a y few)
+            (w .symbols i y li few ∙ some-true (states img) (λ v. reached img s i v && enters img v y) u lu (and-both (reached img s i u) (enters img u y) r g))))))))
+
+        back′ : allBelow (states img) one ≡ true → allBelow 128 (λ y. implies (bitAt into i y) (eqb y x)) ≡ true
+        back′ a = all-true 128 (λ y. implies (bitAt into i y) (eqb y x)) (λ y ly. implies-all (bitAt into i y) (eqb y x) (λ b. came a y (some-one (states img) (λ v. reached img s i v && enters img v y) (sym (w .symbols i y li ly) ∙ b))))
+          where
+            came : allBelow (states img) one ≡ true → (y : ℕ) → (v : ℕ) × (v < states img) × ((reached img s i v && enters img v y) ≡ true) → eqb y x ≡ true
+            came a y q =
+                let v = q .0 in
+                let r = and-left (reached img s i v) (enters img v y) (q .2) in
+                let g = and-right (reached img s i v) (enters img v y) (q .2) in
+                let o = and-right (leb 1 v) (onlyOn img (symbol img p (len img p - 1 - i)) v) (implies-gives (reached img s i v) (leb 1 v && onlyOn img (symbol img p (len img p - 1 - i)) v) (all-each (states img) one a v (q .1)) r) in
+                rw x-is (implies-gives (enters img v y) (eqb y (symbol img p (len img p - 1 - i))) (all-each (symbols img) (λ y. implies (enters img v y) (eqb y (symbol img p (len img p - 1 - i)))) o y (edge-on img (laid .sized .t-most) (enters-by img (laid .sized .t-most) g .1))) g)
+
+  pub end-is : {goes : List ℕ} {r : Bool} {n a : ℕ} → Goers img (states img) goes → lhs img p < nonterminals img → n ≡ len img p → a ≡ lhs img p → r ≡ allIn back n (bitAt goes a) → r ≡ ends img s p
+  unfolding ends allIn
+  end-is {goes} {r} {n} {a} g la en ea er =
+      er ∙ ap₂ (λ (k b : ℕ). allBelow 128 (λ u. implies (bitAt back k u) (bitAt goes b u))) en ea
+      ∙ alike (allBelow 128 (λ u. implies (bitAt back (len img p) u) (bitAt goes (lhs img p) u))) (allBelow (states img) (λ u. implies (reached img s (len img p) u) (leb 1 (goto img u (lhs img p)))))
+      (λ e. all-true (states img) (λ u. implies (reached img s (len img p) u) (leb 1 (goto img u (lhs img p)))) (λ u lu.
+      let few : u < 128 = omega (arith, laid .sized .s-most) in
+      rw (before (len img p) u (omega arith) lu, g .each (lhs img p) u la few, lt-ltb u (states img) lu) at (all-each 128 (λ u. implies (bitAt back (len img p) u) (bitAt goes (lhs img p) u)) e u few)))
+      (λ e. all-true 128 (λ u. implies (bitAt back (len img p) u) (bitAt goes (lhs img p) u)) (λ u lu. implies-all (bitAt back (len img p) u) (bitAt goes (lhs img p) u) (λ b.
+      let f = sym (w .each (len img p) u (omega arith) lu) ∙ b in
+      let l = and-left (ltb u (states img)) (reached img s (len img p) u) f in
+      let r = and-right (ltb u (states img)) (reached img s (len img p) u) f in
+      g .each (lhs img p) u la lu ∙ and-both (ltb u (states img)) (leb 1 (goto img u (lhs img p))) l
+      (implies-gives (reached img s (len img p) u) (leb 1 (goto img u (lhs img p))) (all-each (states img) (λ u. implies (reached img s (len img p) u) (leb 1 (goto img u (lhs img p)))) e u (ltb-true u (states img) l)) r))))
+
+-- K5 of a production: the row does not reduce by it; a step fails; the end decides.
+module _ (img : List ℕ) (laid : Laid img) {by : List ℕ} (reducers : Reducers img (states img) by) (s p : ℕ) (ls : s < states img) (lp : p < productions img) {b : Bool} (eb : b ≡ bitAt by p s) where
+  by-row : {x : Bool} → b ≡ x → reduces img s p ≡ x
+  by-row e =
+      sym (rw (lt-ltb s (states img) ls) at (reducers .each p s (omega (arith, laid .sized .p-most)) (omega (arith, laid .sized .s-most)))) ∙ sym eb ∙ e
+
+  pub k5-none : b ≡ false → true ≡ k5 img s p
+  unfolding k5 implies
+  k5-none e = sym (rw (by-row e))
+
+  pub k5-steps : {r : Bool} → b ≡ true → r ≡ allBelow (len img p) (steps img s p) → r ≡ false → false ≡ k5 img s p
+  unfolding k5 implies
+  k5-steps e er f = sym (rw (by-row e, sym er ∙ f))
+
+  pub k5-end : {r q : Bool} → b ≡ true → r ≡ allBelow (len img p) (steps img s p) → r ≡ true → q ≡ ends img s p → q ≡ k5 img s p
+  unfolding k5 implies
+  k5-end e er f eq = eq ∙ sym (rw (by-row e, sym er ∙ f))

@@ -1,0 +1,44 @@
+use borrow.Author.Needs.{needs}
+use mathlib.Core.Path.{_≡_, sym, _∙_}
+use mathlib.Core.Bool.{true}
+use Prim.Native.Nat.{ℕ, _-_, _≤_, _<_}
+use native.Mathlib.Omega.{arith}
+use native.Mathlib.Nat.{not-suc-le-zero}
+use borrow.Author.Count.{below-more}
+use Rattle.pack.specs.Image.{len}
+use Rattle.conditions.specs.Conditions.{steps}
+use Rattle.conditions.proofs.TestLaws.{all-true, all-false}
+use Rattle.parsecheck.proofs.all_steps.Statement.{statement}
+use Rattle.parsecheck.proofs.all_steps.Tie as tie
+
+abbrev Inv-loop : tie.InvT-loop
+Inv-loop img s p back into n i₀ i = (i ≤ n) × (n ≡ len img p) × ((j : ℕ) → j < i → steps img s p j ≡ true)
+
+abbrev μ-loop : tie.MeasureT-loop
+μ-loop img s p back into n i₀ i = n - i
+
+loop-holds : tie.Need-loop-holds Inv-loop μ-loop
+loop-holds c = (search needs, search needs, λ j l. absurd (not-suc-le-zero l))
+
+step-right-requires : tie.Need-step-right-requires Inv-loop μ-loop
+step-right-requires c κs =
+    let a = c .before .before .before .before in
+    (a .pre .0, (a .pre .1 .0, ((a .pre .1 .1 .0, omega arith), a .pre .1 .1 .1)))
+
+loop-again : tie.Need-loop-again Inv-loop μ-loop
+loop-again c =
+    let r = c .before in
+    let v = r .before .before .loop .inv in
+    (search needs, v .1, below-more _ _ (v .2) (sym (r .step-right .ensures) ∙ c .if1 .taken))
+
+returns : tie.Need-returns Inv-loop μ-loop
+returns c =
+    let r = c .before in
+    let l = r .before .before in
+    sym (all-false _ _ (l .loop .i) (omega arith) (sym (r .step-right .ensures) ∙ c .if1 .left))
+
+returns-2 : tie.Need-returns-2 Inv-loop μ-loop
+returns-2 c = sym (all-true _ _ (λ j l. c .before .loop .inv .2 j (omega arith)))
+
+pub all-steps-spec : {M : Type 1} → statement M
+all-steps-spec = tie.close (tie.spec Inv-loop μ-loop (λ c κs. search needs) loop-holds step-right-requires (λ c. search needs) (λ c. search needs) loop-again returns returns-2)

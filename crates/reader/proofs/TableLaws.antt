@@ -1,0 +1,209 @@
+-- The first two lines, the tables, the whole text, and what is given and left: over plain variables.
+use mathlib.Core.Path.{_≡_, refl, sym, ap, _∙_}
+use mathlib.Core.Bool.{true, false}
+use mathlib.Core.List.{List, [], _∷_}
+use Prim.Native.Nat.{ℕ, _+_, _-_, _<_, _≤_}
+use native.Mathlib.Omega.{arith}
+use lib.ListN.{length, take, drop, set, length-take, length-drop, drop-of-length-le}
+use lib.Seq.{drop-cons, take-suc-set, take-all, take-at}
+use borrow.Author.Tests.{lt-ltb, le-ltb}
+use Rattle.numbers.specs.declared.Answer.{Answer}
+use Rattle.numbers.specs.Codes.{notTheForm, textTooLong, wrongShape, longestText}
+use Rattle.numbers.specs.Front.{front, deliver, Delivers, bufferAfter}
+use Rattle.numbers.proofs.Laws.{answer, deliver-all}
+use Rattle.pack.specs.Laid.{Sized}
+use Rattle.shape.specs.declared.Verdict.{Verdict}
+use Rattle.shape.specs.declared.Verdict.the-variants.{Good, Wrong}
+use Rattle.shape.specs.Shape.{isWrong, each, sizeRule, shape}
+use Rattle.shape.proofs.Laws.{is-good, is-wrong, sizes-sized}
+use Rattle.text.specs.Form.{packLine, sizes, largestImage, tablesOf, tableAt, tableWords}
+use Rattle.text.specs.Reader.{Line, Lines, thenRead, expect, readRow, thenLines, asLine, readLines, readTables, limited, readHead, ended, readAll, judge, read}
+use Rattle.text.specs.Reader.Line.{wrong, took}
+use Rattle.text.specs.Reader.Lines.{wrongFrom, all}
+use Rattle.text.proofs.Lines.{lines-lines, lines-all}
+use Rattle.text.proofs.Tables.{tablesFrom, tables-on, tables-end, tables-fit}
+use Rattle.reader.specs.declared.lines.Cursor.{Cursor}
+use Rattle.reader.specs.Steps.{lineOf, linesOf, Reads, ReadsLines}
+use Rattle.reader.proofs.LineLaws.{reads-wrong, reads-on, line-go, lines-go}
+
+-- ---- the limits of the sizes
+module _ (text img : List ℕ) (c : Cursor) (e : c .ok ≡ true) (i : c .at ≤ length text) {v : Verdict} (s : v ≡ each (sizeRule (take (c .words) img)) 8 1) where
+  pub limits-kept : isWrong v ≡ false → Reads (thenRead (lineOf text img c) limited) text img (c .words) c
+  unfolding lineOf limited
+  limits-kept g =
+      let w = take (c .words) img in
+      let rest = drop (c .at) text in
+      let y : lineOf text img c ≡ took w rest = simp (lineOf, e) in
+      let z : limited w rest ≡ took w rest = simp (limited, sym s ∙ is-good v g) in
+      record { means = y ∙ sym (line-go text img c limited e ∙ z); inside = i; fits = omega arith }
+
+  pub limits-broken : isWrong v ≡ true → Reads (thenRead (lineOf text img c) limited) text img (c .words) (record { ok = false; at = c .at; words = c .words })
+  unfolding limited
+  limits-broken g =
+      let w = is-wrong v g in
+      reads-on text img c limited e (reads-wrong _ text img (c .words) (c .at) (c .words) i (omega arith) (simp (limited, sym s ∙ w .1)))
+
+-- ---- the first two lines
+module _ (text img : List ℕ) (c : Cursor) (n : ℕ) (b : Reads (expect packLine (1 ∷ []) text) text img n c) where
+  pub head-wrong : c .ok ≡ false → ReadsLines (readHead text) text img (n + 8) (record { ok = false; at = 0; words = c .words })
+  unfolding readHead linesOf lineOf thenLines asLine
+  head-wrong e =
+      let z : wrong ≡ expect packLine (1 ∷ []) text = simp (lineOf, e) at (b .means) in
+      record { means = simp (readHead, ← z); inside = omega arith; fits = omega (arith, b .fits) }
+
+  pub head-went : c .ok ≡ true
+      → readHead text ≡ asLine (drop (c .at) text) (thenRead (thenRead (expect (sizes .name) (take (c .words) img) (drop (c .at) text)) (readRow (sizes .row))) limited)
+  unfolding readHead lineOf thenLines asLine
+  head-went e =
+      let z : took (take (c .words) img) (drop (c .at) text) ≡ expect packLine (1 ∷ []) text = simp (lineOf, e) at (b .means) in
+      simp (readHead, ← z)
+
+  pub head-done : (img′ : List ℕ) (d e f r : Cursor) → c .ok ≡ true
+      → Reads (expect (sizes .name) (take (c .words) img) (drop (c .at) text)) text img (c .words) d
+      → Reads (thenRead (lineOf text img d) (readRow (sizes .row))) text img′ (d .words + 8) e
+      → Reads (thenRead (lineOf text img′ e) limited) text img′ (e .words) f
+      → linesOf text img′ r ≡ asLine (drop (c .at) text) (lineOf text img′ f) → r .words ≡ f .words → ((n : ℕ) → c .at ≤ n → f .at ≤ n → r .at ≤ n)
+      → ReadsLines (readHead text) text img′ (n + 8) r
+  head-done img′ d e f r ok p q o m w k = record {
+    means =
+        m ∙ ap (asLine (drop (c .at) text))
+        (o .means ∙ ap (λ (x : Line). thenRead x limited) (q .means ∙ ap (λ (x : Line). thenRead x (readRow (sizes .row))) (p .means)))
+        ∙ sym (head-went ok);
+    inside = k (length text) (b .inside) (o .inside);
+    fits = omega (arith, b .fits, p .fits, q .fits, o .fits);
+  }
+
+pub first-word : (img : List ℕ) → 9 ≤ length img → take 1 (set img 0 1) ≡ 1 ∷ []
+first-word img h = take-suc-set img 0 1 (omega arith)
+
+-- Where they are right, the sizes are within their limits.
+limited-limits : (u v w rest b : List ℕ) → asLine b (limited u v) ≡ all w rest → each (sizeRule w) 8 1 ≡ Good
+unfolding limited asLine
+limited-limits u v w rest b = go (each (sizeRule u) 8 1) refl
+  where
+    go : (x : Verdict) → each (sizeRule u) 8 1 ≡ x → asLine b (limited u v) ≡ all w rest → each (sizeRule w) 8 1 ≡ Good
+    go Good e q = let z : all u v ≡ all w rest = simp (limited, asLine, e) at q in let y : u ≡ w = cc in rw (← y) e
+    go (Wrong p) e q = let z : wrongFrom b ≡ all w rest = simp (limited, asLine, e) at q in let y : _≡_ {A = ℕ} 0 1 = cc in absurd (omega arith)
+
+line-limits : (x : Line) (b w rest : List ℕ) → asLine b (thenRead x limited) ≡ all w rest → each (sizeRule w) 8 1 ≡ Good
+unfolding asLine thenRead
+line-limits wrong b w rest e = let y : _≡_ {A = ℕ} 0 1 = cc in absurd (omega arith)
+line-limits (took u v) b w rest e = limited-limits u v w rest b e
+
+pub head-limits : (text w rest : List ℕ) → readHead text ≡ all w rest → each (sizeRule w) 8 1 ≡ Good
+unfolding readHead thenLines asLine
+head-limits text w rest e = go (expect packLine (1 ∷ []) text) e
+  where
+    go : (x : Line) → thenLines (asLine text x) (λ w rest. asLine rest (thenRead (thenRead (expect (sizes .name) w rest) (readRow (sizes .row))) limited)) ≡ all w rest
+        → each (sizeRule w) 8 1 ≡ Good
+    go wrong q = let y : _≡_ {A = ℕ} 0 1 = cc in absurd (omega arith)
+    go (took u v) q = line-limits (thenRead (expect (sizes .name) u v) (readRow (sizes .row))) v w rest q
+
+-- ---- the end, and the whole
+module _ (text img : List ℕ) (c : Cursor) (i : c .at ≤ length text) (e : c .ok ≡ true) where
+  pub end-more : c .at < length text → ReadsLines (thenLines (linesOf text img c) ended) text img (c .words) (record { ok = false; at = c .at; words = c .words })
+  unfolding ended linesOf
+  end-more h = record {
+    means = sym (lines-go text img c ended e ∙ rw (drop-cons text (c .at) 0 h));
+    inside = i;
+    fits = omega arith;
+  }
+
+  pub end-here : length text ≤ c .at → ReadsLines (thenLines (linesOf text img c) ended) text img (c .words) c
+  unfolding ended linesOf thenLines
+  end-here h = record {
+    means = simp (linesOf, e, drop-of-length-le text h);
+    inside = i;
+    fits = omega arith;
+  }
+
+-- ---- tables
+module _ (head : List ℕ) (i : ℕ) (l : Lines) where
+  pub table-on : (l′ : Lines) → i < 9 → l′ ≡ thenLines l (readLines (tableAt head i .name) (tableAt head i .row) (tableAt head i .lines))
+      → thenLines l (readTables (tablesFrom head i)) ≡ thenLines l′ (readTables (tablesFrom head (i + 1)))
+  unfolding readTables
+  table-on l′ h e =
+      let t = tableAt head i in
+      rw (tables-on head i h, e) (sym (lines-lines l (readLines (t .name) (t .row) (t .lines)) (readTables (tablesFrom head (i + 1)))))
+
+  pub tables-done : 9 ≤ i → l ≡ thenLines l (readTables (tablesFrom head i))
+  unfolding readTables
+  tables-done h = rw (tables-end head i h) (sym (lines-all l))
+
+-- ---- the whole: the head is read into a row of nine words, which becomes the front of the image
+module _ (text head : List ℕ) (c : Cursor) (nine : length head ≡ 9) (h : ReadsLines (readHead text) text head 9 c) where
+  pub all-wrong : (img : List ℕ) → c .ok ≡ false → ReadsLines (readAll text) text img largestImage c
+  unfolding readAll linesOf thenLines
+  all-wrong img e =
+      let z : wrongFrom (drop (c .at) text) ≡ readHead text = simp (linesOf, e) at (h .means) in
+      record { means = simp (readAll, linesOf, thenLines, e, ← z); inside = h .inside; fits = omega (arith, h .fits) }
+
+  module _ (e : c .ok ≡ true) where
+    went : all (take (c .words) head) (drop (c .at) text) ≡ readHead text
+    unfolding linesOf
+    went = simp (linesOf, e) at (h .means)
+
+    front-sized : Sized (take (c .words) head)
+    front-sized = sizes-sized _ (head-limits text _ _ (sym went))
+
+    all-nine : c .words ≡ 9
+    all-nine = omega (arith, h .fits, front-sized .there, length-take (c .words) head)
+
+    front-is : take (c .words) head ≡ head
+    front-is = take-all (c .words) head (omega (arith, all-nine, nine))
+
+    pub head-sized : Sized head
+    head-sized = rw front-is at front-sized
+
+    pub head-room : c .words + tableWords (tablesOf head) ≤ largestImage
+    head-room = omega (arith, all-nine, tables-fit head head-sized)
+
+    -- The words of the head stand at the front of the image.
+    head-there : (img img′ : List ℕ) (r : Answer) → 9 ≤ length img → Delivers (deliver head (length img)) img img′ r → take (c .words) img′ ≡ head
+    head-there img img′ r l d =
+        let z : img′ ≡ front head img = d .left ∙ rw (deliver-all head (length img) (omega (arith, nine))) in
+        rw (z, all-nine) (take-at head (drop (length head) img) 9 nine)
+
+    pub all-done : (img img′ img″ : List ℕ) (a : Answer) (d r : Cursor) → largestImage ≤ length img → Delivers (deliver head (length img)) img img′ a
+        → ReadsLines (thenLines (linesOf text img′ c) (readTables (tablesOf head))) text img″ (c .words + tableWords (tablesOf head)) d
+        → ReadsLines (thenLines (linesOf text img″ d) ended) text img″ (d .words) r → ReadsLines (readAll text) text img″ largestImage r
+    unfolding readAll thenLines
+    all-done img img′ img″ a d r l o p q =
+        let y : all head (drop (c .at) text) ≡ readHead text = rw front-is at went in
+        let z : linesOf text img″ d ≡ thenLines (readHead text) (λ w rest. readTables (tablesOf w) w rest) =
+        p .means ∙ lines-go text img′ c (readTables (tablesOf head)) e ∙ rw (head-there img img′ a (omega arith) o, ← y) in record {
+          means = q .means ∙ ap (λ (x : Lines). thenLines x ended) z;
+          inside = q .inside;
+          fits = omega (arith, q .fits, p .fits, head-room);
+        }
+
+-- ---- words that were read
+module _ (words b : List ℕ) (room : ℕ) where
+  pub judge-wrong : (place : ℕ) → shape words ≡ Wrong place → Delivers (judge 0 room (all words [])) b b (answer wrongShape place)
+  unfolding judge
+  judge-wrong place e = record { given = simp (judge, e); left = simp (judge, e) }
+
+  pub judge-good : (b′ : List ℕ) (r : Answer) → shape words ≡ Good → Delivers (deliver words room) b b′ r → Delivers (judge 0 room (all words [])) b b′ r
+  unfolding judge
+  judge-good b′ r e q = simp (judge, e) q
+
+-- ---- the reader
+module _ (text b : List ℕ) where
+  pub read-long : longestText < length text → (answer textTooLong 0 ≡ read text b .answer) × (b ≡ bufferAfter b (read text b))
+  unfolding read
+  read-long h = (simp (read, lt-ltb _ _ h), simp (read, lt-ltb _ _ h))
+
+  module _ (h : length text ≤ longestText) (img : List ℕ) (c : Cursor) (p : ReadsLines (readAll text) text img largestImage c) where
+    pub read-wrong : c .ok ≡ false → (answer notTheForm (c .at) ≡ read text b .answer) × (b ≡ bufferAfter b (read text b))
+    unfolding read linesOf judge
+    read-wrong e =
+        let z : wrongFrom (drop (c .at) text) ≡ readAll text = simp (linesOf, e) at (p .means) in
+        let y : length text - length (drop (c .at) text) ≡ c .at = rw (length-drop (c .at) text) (omega (arith, p .inside)) in
+        (simp (read, le-ltb _ _ h, ← z, judge, y), simp (read, le-ltb _ _ h, ← z, judge))
+
+    pub read-done : (b′ : List ℕ) (r : Answer) → c .ok ≡ true → Delivers (judge 0 (length b) (all (take (c .words) img) [])) b b′ r
+        → (r ≡ read text b .answer) × (b′ ≡ bufferAfter b (read text b))
+    unfolding read linesOf judge
+    read-done b′ r e q =
+        let z : all (take (c .words) img) (drop (c .at) text) ≡ readAll text = simp (linesOf, e) at (p .means) in
+        (simp (read, le-ltb _ _ h, ← z) (q .given), simp (read, le-ltb _ _ h, ← z) (q .left))

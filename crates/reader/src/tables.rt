@@ -1,0 +1,165 @@
+// Reading the first two lines, the tables and the whole text.
+use crate::lines::Cursor;
+use crate::lines::as_line;
+use crate::lines::expect;
+use crate::lines::read_lines;
+use crate::lines::read_row;
+use pack::image;
+use shape::Verdict;
+use shape::is_wrong;
+use text::Row;
+ghost use mathlib.Core.Path.{_≡_};
+ghost use mathlib.Core.List.{List};
+ghost use Prim.Native.Nat.{ℕ, _+_, _*_, _<_, _≤_};
+ghost use lib.ListN.{length};
+ghost use Rattle.shape.specs.Shape.{each, sizeRule};
+ghost use Rattle.text.specs.Form.{largestImage, rowWidth, tableAt, tablesOf, tableWords};
+ghost use Rattle.text.specs.Reader.{thenRead, thenLines, readLines, readTables, limited, readHead, ended, readAll};
+ghost use Rattle.reader.specs.Steps.{lineOf, linesOf, Reads, ReadsLines};
+
+const LEAST: [usize; 9] = [0, 1, 1, 1, 1, 1, 1, 0, 0];
+
+const GREATEST: [usize; 9] = [0, 64, 32, 128, 128, 128, 32, 64, 32];
+
+// The size at word i is there and within its limits.
+fn size_rule(img: &[u16], i: usize) -> Verdict
+    requires { ⌜ i < 9 ⌝ }
+    ensures { λ r. ⌜ r ≡ sizeRule (now (img .entry)) i ⌝ }
+{
+    if img.len() <= i {
+        return Verdict::Wrong(i);
+    }
+    let size = image::word_at(img, i);
+    if size < LEAST[i] {
+        return Verdict::Wrong(i);
+    }
+    if GREATEST[i] < size {
+        return Verdict::Wrong(i);
+    }
+    Verdict::Good
+}
+
+// All eight sizes are within their limits.
+fn sizes(img: &[u16]) -> Verdict
+    ensures { λ r. ⌜ r ≡ each (sizeRule (now (img .entry))) 8 1 ⌝ }
+{
+    let mut i: usize = 1;
+    while i < 9 {
+        let v = size_rule(img, i);
+        if is_wrong(v) {
+            return v;
+        }
+        i += 1;
+    }
+    Verdict::Good
+}
+
+// The sizes are a part of the form of their line.
+fn limited(head: &[u16], c: Cursor) -> Cursor
+    requires { ⌜ c .words ≤ length (now head) ⌝ }
+    ensures { λ r. ⌜ ((text : List ℕ) → c .at ≤ length text → Reads (thenRead (lineOf text (now (head .entry)) c) limited) text (now (head .entry)) (c .words) r) ⌝ }
+{
+    let ok = c.ok;
+    let at = c.at;
+    let words = c.words;
+    if !ok {
+        return c;
+    }
+    if is_wrong(sizes(&head[..words])) {
+        return Cursor {
+            ok: false,
+            at,
+            words,
+        };
+    }
+    c
+}
+
+// The first two lines.
+fn read_head(text: &[u8], head: &mut [u16]) -> Cursor
+    requires { ⌜ 9 ≤ length (now head) ⌝ }
+    ensures { λ r. ⌜ ReadsLines (readHead (now (text .entry))) (now (text .entry)) (now (head .exit)) 9 r ⌝ }
+{
+    head[0] = 1;
+    let c = expect(text, 0, 1, b"pack=1\n");
+    let ok = c.ok;
+    let at = c.at;
+    let words = c.words;
+    if !ok {
+        return Cursor {
+            ok: false,
+            at: 0,
+            words,
+        };
+    }
+    let d = expect(text, at, words, b"size=");
+    let e = read_row(text, head, d, Row::Numbers(8));
+    as_line(at, limited(head, e))
+}
+
+// Table i, as the sizes in the head say.
+fn read_table(text: &[u8], head: &[u16], img: &mut [u16], c: Cursor, i: usize) -> Cursor
+    requires { ⌜ (c .at ≤ length (now text)) × ((9 ≤ length (now head)) × ((i < 9) × (c .words + tableAt (now head) i .lines * rowWidth (tableAt (now head) i .row) ≤ length (now img)))) ⌝ }
+    ensures { λ r. ⌜ ReadsLines (thenLines (linesOf (now (text .entry)) (now (img .entry)) c) (readLines (tableAt (now (head .entry)) i .name) (tableAt (now (head .entry)) i .row) (tableAt (now (head .entry)) i .lines))) (now (text .entry)) (now (img .exit)) (c .words + tableAt (now (head .entry)) i .lines * rowWidth (tableAt (now (head .entry)) i .row)) r ⌝ }
+{
+    let mut name = [0u8; text::LONGEST_NAME];
+    let size = text::name_of(i, &mut name);
+    read_lines(
+        text,
+        img,
+        c,
+        &name[..size],
+        text::row_of(head, i),
+        text::lines_of(head, i),
+    )
+}
+
+// The tables, in the order of their list.
+fn read_tables(text: &[u8], head: &[u16], img: &mut [u16], c: Cursor) -> Cursor
+    requires { ⌜ (c .at ≤ length (now text)) × ((9 ≤ length (now head)) × (c .words + tableWords (tablesOf (now head)) ≤ length (now img))) ⌝ }
+    ensures { λ r. ⌜ ReadsLines (thenLines (linesOf (now (text .entry)) (now (img .entry)) c) (readTables (tablesOf (now (head .entry))))) (now (text .entry)) (now (img .exit)) (c .words + tableWords (tablesOf (now (head .entry)))) r ⌝ }
+{
+    let mut d = c;
+    let mut i: usize = 0;
+    while i < text::TABLES {
+        d = read_table(text, head, img, d, i);
+        i += 1;
+    }
+    d
+}
+
+// Nothing follows the last line.
+fn ended(text: &[u8], c: Cursor) -> Cursor
+    requires { ⌜ c .at ≤ length (now text) ⌝ }
+    ensures { λ r. ⌜ ((img : List ℕ) → ReadsLines (thenLines (linesOf (now (text .entry)) img c) ended) (now (text .entry)) img (c .words) r) ⌝ }
+{
+    let ok = c.ok;
+    let at = c.at;
+    let words = c.words;
+    if !ok {
+        return c;
+    }
+    if at < text.len() {
+        return Cursor {
+            ok: false,
+            at,
+            words,
+        };
+    }
+    c
+}
+
+// The whole text. The head is read into a row of its own, so that its sizes stay while the tables are read into the image.
+pub fn read_all(text: &[u8], img: &mut [u16]) -> Cursor
+    requires { ⌜ largestImage ≤ length (now img) ⌝ }
+    ensures { λ r. ⌜ ReadsLines (readAll (now (text .entry))) (now (text .entry)) (now (img .exit)) largestImage r ⌝ }
+{
+    let mut head = [0u16; text::HEAD_WORDS];
+    let c = read_head(text, &mut head);
+    let ok = c.ok;
+    if !ok {
+        return c;
+    }
+    numbers::deliver(&head, img);
+    ended(text, read_tables(text, &head, img, c))
+}

@@ -1,0 +1,18 @@
+use borrow.Author.Needs.{needs}
+use mathlib.Core.Path.{sym, ap}
+use Rattle.shape.specs.Shape.{verdictCode}
+use Rattle.shape.proofs.verdict_code.Statement.{statement}
+use Rattle.shape.proofs.verdict_code.Tie as tie
+
+returns : tie.Need-returns
+unfolding verdictCode
+returns c = sym (ap verdictCode (c .enum-told .given .1))
+
+returns-2 : tie.Need-returns-2
+unfolding verdictCode
+returns-2 c = sym (ap verdictCode (c .enum-told2 .given .1))
+
+pub verdict-code-spec : {M : Type 1} → statement M
+verdict-code-spec =
+    tie.close
+    (tie.spec (λ c. search needs) (λ c. search needs) returns returns-2)

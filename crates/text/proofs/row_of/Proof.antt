@@ -1,0 +1,24 @@
+-- `text::row_of` meets its contract.
+use borrow.Author.Needs.{needs}
+use Rattle.text.specs.Form.{tablesOf}
+use Rattle.text.proofs.Tables.{last-place}
+use Rattle.text.proofs.row_of.Statement.{statement}
+use Rattle.text.proofs.row_of.Tie as tie
+
+pub row-of-spec : {M : Type 1} → statement M
+unfolding tablesOf
+row-of-spec =
+    tie.close
+    (tie.spec
+    (λ c κs. search needs)
+    (λ c κs. search needs)
+    (λ c κs. search needs)
+    (λ c. search needs)
+    (λ c. search needs)
+    (λ c. search needs)
+    (λ c. rw (c .before .match .keys4, c .terminals .ensures))
+    (λ c. rw (c .before .match .keys5, c .nonterminals .ensures))
+    (λ c. search needs)
+    (λ c. rw (c .before .match .keys7, c .classes .ensures))
+    (λ c. search needs)
+    (λ c. rw (last-place _ (c .before .before .pre .1) (c .match .rest))))

@@ -1,0 +1,139 @@
+// Writing the rows, the lines and the tables of an image, as the fields are written.
+use crate::fields::word;
+use crate::fields::write_fields;
+use crate::fields::write_name;
+use text::COMMA;
+use text::Kind;
+use text::NEWLINE;
+use text::Row;
+use text::SET_WORDS;
+ghost use mathlib.Core.Path.{_≡_};
+ghost use mathlib.Core.List.{_++_};
+ghost use Prim.Native.Nat.{_+_, _*_, _<_, _≤_};
+ghost use Rattle.pack.specs.Image.{layoutAt};
+ghost use Rattle.pack.specs.Laid.{Sized};
+ghost use Rattle.text.specs.Form.{largestImage, rowWidth, tableAt, tablesOf};
+ghost use Rattle.text.specs.Writer.{rowText, linesText, tablesText, textOf};
+ghost use Rattle.writer.specs.Steps.{tooLong, Wrote};
+
+// What stands behind the `=` of a line.
+fn write_row(out: &mut [u8], at: usize, img: &[u16], i: usize, row: Row) -> usize
+    requires { ⌜ (at ≤ tooLong) × (i + rowWidth row ≤ largestImage) ⌝ }
+    ensures { λ r. ⌜ Wrote (rowText row (now (img .entry)) i) (now (out .entry)) at (now (out .exit)) r ⌝ }
+{
+    match row {
+        Row::Numbers(n) => write_fields(out, at, img, i, Kind::Number, n, NEWLINE),
+        Row::Sets(n) => write_fields(out, at, img, i, Kind::Set, n, NEWLINE),
+        Row::Production => write_fields(
+            out,
+            at,
+            img,
+            i,
+            Kind::Number,
+            2 + word(img, i + 1),
+            NEWLINE,
+        ),
+        Row::Group => {
+            let to = write_fields(out, at, img, i, Kind::Set, 1, COMMA);
+            write_fields(out, to, img, i + SET_WORDS, Kind::Number, 1, NEWLINE)
+        }
+    }
+}
+
+// The words of a row.
+fn row_width(row: Row) -> usize
+    requires { ⌜ rowWidth row ≤ largestImage ⌝ }
+    ensures { λ r. ⌜ r ≡ rowWidth row ⌝ }
+{
+    match row {
+        Row::Numbers(n) => n,
+        Row::Sets(n) => n * SET_WORDS,
+        Row::Production => text::PROD_WORDS,
+        Row::Group => text::GROUP_WORDS,
+    }
+}
+
+// One line of a table.
+fn write_line(out: &mut [u8], at: usize, img: &[u16], i: usize, name: &[u8], row: Row) -> usize
+    requires { ⌜ (at ≤ tooLong) × (i + rowWidth row ≤ largestImage) ⌝ }
+    ensures { λ r. ⌜ Wrote (now (name .entry) ++ rowText row (now (img .entry)) i) (now (out .entry)) at (now (out .exit)) r ⌝ }
+{
+    let to = write_name(out, at, name);
+    write_row(out, to, img, i, row)
+}
+
+// So many lines of a table.
+fn write_lines(
+    out: &mut [u8],
+    at: usize,
+    img: &[u16],
+    i: usize,
+    name: &[u8],
+    row: Row,
+    n: usize,
+) -> usize
+    requires { ⌜ (at ≤ tooLong) × (i + n * rowWidth row ≤ largestImage) ⌝ }
+    ensures { λ r. ⌜ Wrote (linesText (now (name .entry)) row n (now (img .entry)) i) (now (out .entry)) at (now (out .exit)) r ⌝ }
+{
+    let mut to = at;
+    let mut from = i;
+    let mut left = n;
+    while left != 0 {
+        left -= 1;
+        to = write_line(out, to, img, from, name, row);
+        from += row_width(row);
+    }
+    to
+}
+
+// The words of table i.
+fn table_words(img: &[u16], i: usize) -> usize
+    requires { ⌜ (Sized (now img)) × ((i < 9) × (tableAt (now img) i .lines * rowWidth (tableAt (now img) i .row) ≤ largestImage)) ⌝ }
+    ensures { λ r. ⌜ r ≡ tableAt (now (img .entry)) i .lines * rowWidth (tableAt (now (img .entry)) i .row) ⌝ }
+{
+    text::lines_of(img, i) * row_width(text::row_of(img, i))
+}
+
+// Table i, whose words stand from a place of the image on.
+fn write_table(out: &mut [u8], at: usize, img: &[u16], from: usize, i: usize) -> usize
+    requires { ⌜ (at ≤ tooLong) × ((Sized (now img)) × ((i < 9) × (from + tableAt (now img) i .lines * rowWidth (tableAt (now img) i .row) ≤ largestImage))) ⌝ }
+    ensures { λ r. ⌜ Wrote (linesText (tableAt (now (img .entry)) i .name) (tableAt (now (img .entry)) i .row) (tableAt (now (img .entry)) i .lines) (now (img .entry)) from) (now (out .entry)) at (now (out .exit)) r ⌝ }
+{
+    let mut name = [0u8; text::LONGEST_NAME];
+    let size = text::name_of(i, &mut name);
+    write_lines(
+        out,
+        at,
+        img,
+        from,
+        &name[..size],
+        text::row_of(img, i),
+        text::lines_of(img, i),
+    )
+}
+
+// The tables, in the order of their list.
+fn write_tables(out: &mut [u8], at: usize, img: &[u16]) -> usize
+    requires { ⌜ (at ≤ tooLong) × (Sized (now img)) ⌝ }
+    ensures { λ r. ⌜ Wrote (tablesText (tablesOf (now (img .entry))) (now (img .entry)) layoutAt) (now (out .entry)) at (now (out .exit)) r ⌝ }
+{
+    let mut to = at;
+    let mut from: usize = text::HEAD_WORDS;
+    let mut i: usize = 0;
+    while i < text::TABLES {
+        to = write_table(out, to, img, from, i);
+        from += table_words(img, i);
+        i += 1;
+    }
+    to
+}
+
+// The text of an image.
+pub fn write_text(out: &mut [u8], img: &[u16]) -> usize
+    requires { ⌜ Sized (now img) ⌝ }
+    ensures { λ r. ⌜ Wrote (textOf (now (img .entry))) (now (out .entry)) 0 (now (out .exit)) r ⌝ }
+{
+    let a = write_name(out, 0, b"pack=1\n");
+    let b = write_lines(out, a, img, 1, b"size=", Row::Numbers(8), 1);
+    write_tables(out, b, img)
+}
