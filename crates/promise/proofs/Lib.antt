@@ -1,3 +1,10 @@
+pub mod Examples
+pub mod Leaves
+pub mod Looks
 pub mod Marked
+pub mod Matching
 pub mod Passing
+pub mod Promised
+pub mod Stack
+pub mod Steps
 pub mod Unique

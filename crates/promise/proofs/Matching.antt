@@ -1,0 +1,87 @@
+-- What it is to lead and to match, for a pack of good shape: the state that bytes lead to is one, and so is the last place; and terminal 0
+-- is in no set of a scan state, so that a valid set may have it or not. Assumes nothing.
+use mathlib.Core.Path.{_≡_, refl, sym, ap, _∙_}
+use mathlib.Core.Bool.{Bool, true, false}
+use mathlib.Core.List.{List, [], _∷_}
+use Prim.Native.Nat.{ℕ, zero, suc, _<_, _≤_, _^_}
+use native.Mathlib.Omega.{arith}
+use lib.Dec.{ltb}
+use lib.ListN.{length, take}
+use lib.Bits.{bitAnd, and-le-l, or-lt}
+use borrow.Author.Tests.{ltb-true, ltb-false}
+use Rattle.sets.specs.Sets.{has, meet, less, single}
+use Rattle.sets.proofs.Laws.{has-none, has-suc, has-and, has-or, has-less, ext}
+use Rattle.pack.specs.Image.{terminals, scanStates, classOf, move, acc, rej}
+use Rattle.shape.specs.declared.Verdict.the-variants.{Good}
+use Rattle.shape.specs.Shape.{shape}
+use Rattle.shape.proofs.Good.{good-laid, good-move, good-class, good-acc, good-rej}
+use Rattle.conditions.specs.Conditions.{matched}
+use Rattle.scan.specs.Matching.{ledFrom, Leads, Last}
+
+-- Bytes lead to one scan state.
+pub same-state : {img bytes : List ℕ} {p q : ℕ} → Leads img bytes p → Leads img bytes q → p ≡ q
+same-state a b = let z = sym (a .way) ∙ b .way in omega arith
+
+-- There is one last place.
+pub one-last : {img bytes : List ℕ} {v n m p q : ℕ} → Last img bytes v n p → Last img bytes v m q → n ≡ m
+one-last {n = n} {m = m} {p = p} {q = q} a b = go (ltb n m) refl (ltb m n) refl
+  where
+    go : (x : Bool) → ltb n m ≡ x → (y : Bool) → ltb m n ≡ y → n ≡ m
+    go true e y f = absurd (b .here (a .after m q (ltb-true n m e) (b .within) (b .leads)))
+    go false e true f = absurd (a .here (b .after n p (ltb-true m n f) (a .within) (a .leads)))
+    go false e false f = omega (arith, ltb-false n m e, ltb-false m n f)
+
+-- A set without terminal 0 meets V less bit 0 as it meets V.
+no-end : (k x v : ℕ) → x < 2 ^ k → has x 0 ≡ 0 → meet x (less v (single 0)) ≡ meet x v
+no-end k x v l e =
+    ext k (bitAnd x (less v (single 0))) (bitAnd x v) (omega (arith, and-le-l x (less v (single 0)))) (omega (arith, and-le-l x v)) (λ t h. go t)
+  where
+    go : (t : ℕ) → has (bitAnd x (less v (single 0))) t ≡ has (bitAnd x v) t
+    go zero = omega (arith, has-and x (less v (single 0)) 0, has-and x v 0)
+    go (suc t) = omega (arith, has-and x (less v (single 0)) (suc t), has-and x v (suc t), has-less v 1 (suc t), has-suc 1 t, has-none t)
+
+module _ (img : List ℕ) (good : shape img ≡ Good) where
+  -- Moves stay within the scan states.
+  led-from : (bytes : List ℕ) (q p : ℕ) → q < scanStates img → ledFrom img q bytes ≡ suc p → p < scanStates img
+  unfolding ledFrom
+  led-from [] q p l e = omega arith
+  led-from (b ∷ bytes) q p l e = go (led-from bytes) (move img q (classOf img b)) refl e
+    where
+      go : ((r u : ℕ) → r < scanStates img → ledFrom img r bytes ≡ suc u → u < scanStates img)
+          → (m : ℕ) → move img q (classOf img b) ≡ m → elim m as (λ x. ℕ) [ zero ↦ 0 | suc r ↦ ledFrom img r bytes ] ≡ suc p → p < scanStates img
+      go ih zero f g = absurd (omega arith)
+      go ih (suc r) f g = ih r p (omega (arith, f, good-move img good q (classOf img b) l (good-class img good b))) g
+
+  pub led : {bytes : List ℕ} {q : ℕ} → Leads img bytes q → q < scanStates img
+  led {bytes} {q} l = led-from bytes 0 q (omega (arith, good-laid img good)) (l .way)
+
+  -- What is accepted, and what matches, of V less bit 0 and of V.
+  pub same-accepted : (q v : ℕ) → q < scanStates img → meet (acc img q) (less v (single 0)) ≡ meet (acc img q) v
+  same-accepted q v l = no-end (terminals img) (acc img q) v (good-acc img good q l .0) (good-acc img good q l .1)
+
+  pub matched-below : (q : ℕ) → q < scanStates img → matched img q < 2 ^ terminals img
+  matched-below q l = or-lt (terminals img) (acc img q) (rej img q) (good-acc img good q l .0) (good-rej img good q l .0)
+
+  same-matched : (q v : ℕ) → q < scanStates img → meet (matched img q) (less v (single 0)) ≡ meet (matched img q) v
+  same-matched q v l =
+      no-end (terminals img) (matched img q) v (matched-below q l)
+      (omega (arith, has-or (acc img q) (rej img q) 0, good-acc img good q l .1, good-rej img good q l .1))
+
+  -- The last place for the one is the last place for the other.
+  pub with-end : {bytes : List ℕ} {v n q : ℕ} → Last img bytes (less v (single 0)) n q → Last img bytes v n q
+  with-end {bytes} {v} {n} {q} l =
+      record {
+        within = l .within;
+        leads = l .leads;
+        here = λ z. l .here (same-matched q v (led (l .leads)) ∙ z);
+        after = λ m p h w f. sym (same-matched p v (led f)) ∙ l .after m p h w f;
+      }
+
+  pub without-end : {bytes : List ℕ} {v n q : ℕ} → Last img bytes v n q → Last img bytes (less v (single 0)) n q
+  without-end {bytes} {v} {n} {q} l =
+      record {
+        within = l .within;
+        leads = l .leads;
+        here = λ z. l .here (sym (same-matched q v (led (l .leads))) ∙ z);
+        after = λ m p h w f. same-matched p v (led f) ∙ l .after m p h w f;
+      }
