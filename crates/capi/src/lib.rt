@@ -4,11 +4,14 @@
 ghost use mathlib.Core.Path.{_≡_};
 ghost use mathlib.Core.List.{[], _∷_};
 ghost use Rattle.shape.specs.Shape.{shape};
+ghost use Rattle.conditions.specs.Check.{check};
 ghost use Rattle.scan.specs.Scan.{scanAlone};
-ghost use Rattle.capi.specs.Numbers.{told, written, ofShape, ofScan, ofText};
+ghost use Rattle.parse.specs.Parse.{parse, treeAfter};
+ghost use Rattle.capi.specs.Numbers.{told, written, ofShape, ofScan, ofText, ofCheck, ofParse, ofPart, partOf};
 ghost use Rattle.numbers.specs.Front.{bufferAfter};
 ghost use Rattle.text.specs.Reader.{read};
 ghost use Rattle.text.specs.Writer.{write};
+use parse::Part;
 
 // Two numbers, where there is room for them.
 fn put2(out: &mut [u64], a: u64, b: u64) -> usize
@@ -21,6 +24,21 @@ fn put2(out: &mut [u64], a: u64, b: u64) -> usize
     out[0] = a;
     out[1] = b;
     2
+}
+
+// Four numbers, where there is room for them.
+fn put4(out: &mut [u64], a: u64, b: u64, c: u64, d: u64) -> usize
+    ensures { λ r. ⌜ r ≡ told (now (out .entry)) (a ∷ b ∷ c ∷ d ∷ []) ⌝ }
+    ensures { λ r. ⌜ now (out .exit) ≡ written (now (out .entry)) (a ∷ b ∷ c ∷ d ∷ []) ⌝ }
+{
+    if out.len() < 4 {
+        return 0;
+    }
+    out[0] = a;
+    out[1] = b;
+    out[2] = c;
+    out[3] = d;
+    4
 }
 
 // Five numbers, where there is room for them.
@@ -37,6 +55,23 @@ fn put5(out: &mut [u64], a: u64, b: u64, c: u64, d: u64, e: u64) -> usize
     out[3] = d;
     out[4] = e;
     5
+}
+
+// Six numbers, where there is room for them.
+fn put6(out: &mut [u64], a: u64, b: u64, c: u64, d: u64, e: u64, f: u64) -> usize
+    ensures { λ r. ⌜ r ≡ told (now (out .entry)) (a ∷ b ∷ c ∷ d ∷ e ∷ f ∷ []) ⌝ }
+    ensures { λ r. ⌜ now (out .exit) ≡ written (now (out .entry)) (a ∷ b ∷ c ∷ d ∷ e ∷ f ∷ []) ⌝ }
+{
+    if out.len() < 6 {
+        return 0;
+    }
+    out[0] = a;
+    out[1] = b;
+    out[2] = c;
+    out[3] = d;
+    out[4] = e;
+    out[5] = f;
+    6
 }
 
 // Shape: code and place.
@@ -95,4 +130,68 @@ pub extern "C" fn zhg_write(img: &[u16], buffer: &mut [u8], out: &mut [u64]) -> 
 {
     let wrote = writer::write(img, buffer);
     put2(out, wrote.code as u64, wrote.number as u64)
+}
+
+// The check of a pack: code, number and the two places.
+#[no_mangle]
+pub extern "C" fn zhg_check(img: &[u16], out: &mut [u64]) -> usize
+    ensures { λ r. ⌜ r ≡ told (now (out .entry)) (ofCheck (check (now (img .entry)))) ⌝ }
+    ensures { λ r. ⌜ now (out .exit) ≡ written (now (out .entry)) (ofCheck (check (now (img .entry)))) ⌝ }
+{
+    let k = checker::check(img);
+    put4(
+        out,
+        k.code as u64,
+        k.number as u64,
+        k.first as u64,
+        k.second as u64,
+    )
+}
+
+// The parse of a text: code, place, length, terminal, records and moves; the records go to the front of the tree.
+#[no_mangle]
+pub extern "C" fn zhg_parse(
+    img: &[u16],
+    text: &[u8],
+    tree: &mut [u16],
+    allowance: u32,
+    out: &mut [u64],
+) -> usize
+    ensures { λ r. ⌜ r ≡ told (now (out .entry)) (ofParse (parse (now (img .entry)) (now (text .entry)) (now (tree .entry)) allowance .parsed)) ⌝ }
+    ensures { λ r. ⌜ now (out .exit) ≡ written (now (out .entry)) (ofParse (parse (now (img .entry)) (now (text .entry)) (now (tree .entry)) allowance .parsed)) ⌝ }
+    ensures { λ r. ⌜ now (tree .exit) ≡ treeAfter (now (tree .entry)) (parse (now (img .entry)) (now (text .entry)) (now (tree .entry)) allowance) ⌝ }
+{
+    let p = parse::parse(img, text, tree, allowance);
+    put6(
+        out,
+        p.code as u64,
+        p.place as u64,
+        p.length as u64,
+        p.terminal as u64,
+        p.records as u64,
+        p.moves as u64,
+    )
+}
+
+// The part of the text that the record at the front of a row stands for; a row too short for a record has none.
+fn part_of(text: &[u8], row: &[u16]) -> Part
+    ensures { λ r. ⌜ r ≡ partOf (now (text .entry)) (now (row .entry)) ⌝ }
+{
+    if row.len() < 4 {
+        return Part {
+            start: 0,
+            length: 0,
+        };
+    }
+    parse::leaf_part(text, row[0], row[1], row[2], row[3])
+}
+
+// A leaf's bytes: start and length of that part of the text.
+#[no_mangle]
+pub extern "C" fn zhg_leaf(text: &[u8], row: &[u16], out: &mut [u64]) -> usize
+    ensures { λ r. ⌜ r ≡ told (now (out .entry)) (ofPart (partOf (now (text .entry)) (now (row .entry)))) ⌝ }
+    ensures { λ r. ⌜ now (out .exit) ≡ written (now (out .entry)) (ofPart (partOf (now (text .entry)) (now (row .entry)))) ⌝ }
+{
+    let part = part_of(text, row);
+    put2(out, part.start as u64, part.length as u64)
 }

@@ -152,6 +152,61 @@ fn write(img: &[u16], n: usize) {
     write_with(img, &mut room, n);
 }
 
+fn check(img: &[u16]) {
+    let c = checker::check(img);
+    print(c.code as u64, b',');
+    print(c.number as u64, b',');
+    print(c.first as u64, b',');
+    print(c.second as u64, b'\n');
+}
+
+fn parse_into(img: &[u16], text: &[u8], tree: &mut [u16], allowance: u32) {
+    pattern_of_words(tree);
+    let p = parse::parse(img, text, tree, allowance);
+    print(p.code as u64, b',');
+    print(p.place as u64, b',');
+    print(p.length as u64, b',');
+    print(p.terminal as u64, b',');
+    print(p.records as u64, b',');
+    print(p.moves as u64, b',');
+    print(sum_of_words(tree), b'\n');
+}
+
+fn parse_with(img: &[u16], text: &[u8], tree: &mut [u16], n: usize, allowance: u32) {
+    let k = parts::least(n, tree.len());
+    parse_into(img, text, &mut tree[..k], allowance);
+}
+
+fn parse(img: &[u16], text: &[u8], head: &[u8; 40]) {
+    let mut tree = [0u16; 40000];
+    parse_with(
+        img,
+        text,
+        &mut tree,
+        number(head, 3),
+        number(head, 4) as u32,
+    );
+}
+
+// Number i of the header as a record's word.
+fn record_word(head: &[u8; 40], i: usize) -> u16
+    requires { ⌜ i < 10 ⌝ }
+{
+    (number(head, i) % 65536) as u16
+}
+
+fn leaf(text: &[u8], head: &[u8; 40]) {
+    let part = parse::leaf(
+        text,
+        record_word(head, 3),
+        record_word(head, 4),
+        record_word(head, 5),
+        record_word(head, 6),
+    );
+    print(part.len() as u64, b',');
+    print(sum_of_bytes(part), b'\n');
+}
+
 fn answer(head: &[u8; 40], img: &[u16], text: &[u8]) {
     let kind = number(head, 0);
     if kind == 1 {
@@ -168,6 +223,18 @@ fn answer(head: &[u8; 40], img: &[u16], text: &[u8]) {
     }
     if kind == 4 {
         write(img, number(head, 3));
+        return;
+    }
+    if kind == 5 {
+        check(img);
+        return;
+    }
+    if kind == 6 {
+        parse(img, text, head);
+        return;
+    }
+    if kind == 7 {
+        leaf(text, head);
         return;
     }
     io::write_all(STDOUT_FILENO, b"\n");
