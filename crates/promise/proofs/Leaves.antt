@@ -1,6 +1,6 @@
 -- What a scan of the parse gives, for a pack that passes K1 to K3: a match for a parse state stands for one terminal, whose leaf is right; a
 -- match of layout is a piece of the cover; and where there is none, why. Assumes nothing.
-use mathlib.Core.Path.{_≡_, refl, sym, ap, _∙_}
+use mathlib.Core.Path.{_≡_, refl, sym, _∙_}
 use mathlib.Core.Bool.{Bool, true, false}
 use mathlib.Core.List.{List}
 use Prim.Native.Nat.{ℕ, zero, suc, _+_, _<_, _≤_, _^_}

@@ -5,13 +5,13 @@ use mathlib.Core.Path.{_≡_, refl, ap}
 use mathlib.Core.Bool.{Bool, true, false}
 use mathlib.Core.Logic.{_⊎_, inl, inr}
 use mathlib.Core.List.{List}
-use Prim.Native.Nat.{ℕ, zero, suc, _+_, _*_, _<_, _≤_}
+use Prim.Native.Nat.{ℕ, zero, suc, _*_, _<_, _≤_}
 use native.Mathlib.Omega.{arith}
 use lib.Dec.{ltb}
 use lib.ListN.{length, drop, length-drop}
 use lib.Bits.{and-zero-l}
 use borrow.Author.Tests.{ltb-true, ltb-false}
-use Rattle.sets.specs.Sets.{has, meet}
+use Rattle.sets.specs.Sets.{has}
 use Rattle.sets.proofs.Laws.{has-lt, has-none, has-and, has-or}
 use Rattle.numbers.specs.Codes.{noTerminal, unexpected, allowanceUsedUp}
 use Rattle.pack.specs.Image.{states, dom, acc, rej, validSet, firstNonterminal}
@@ -27,7 +27,7 @@ use Rattle.parse.specs.Leaf.{part}
 use Rattle.parse.specs.Parse.{recordWords}
 use Rattle.promise.specs.Cover.{RightLeaf, Covers}
 use Rattle.promise.specs.Refusal.{Outdone}
-use Rattle.promise.specs.RightLook.{Sees, RightLook}
+use Rattle.promise.specs.RightLook.{Sees}
 use Rattle.promise.specs.RightLook as Sight
 use Rattle.promise.proofs.Matching.{one-last}
 use Rattle.promise.proofs.Looks.{right-look}

@@ -5,10 +5,9 @@ use mathlib.Core.Bool.{false}
 use mathlib.Core.List.{List, []}
 use Prim.Native.Nat.{ℕ, _*_, _<_, _≤_}
 use lib.Dec.{T}
-use lib.ListN.{length, drop, getD}
+use lib.ListN.{length, getD}
 use Rattle.sets.specs.Sets.{has, meet}
 use Rattle.numbers.specs.Codes.{done, noGroup, stuck, longestText, noTerminal}
-use Rattle.numbers.specs.Front.{bufferAfter}
 use Rattle.pack.specs.Image.{terminals, scanStates, dom, acc, needed, largestImage, firstNonterminal}
 use Rattle.pack.specs.Laid.{Sized}
 use Rattle.shape.specs.declared.Verdict.the-variants.{Good}
@@ -21,7 +20,7 @@ use Rattle.scan.specs.Scan.{scan}
 use Rattle.scan.specs.Matching.{Last}
 use Rattle.scan.proofs.Theory as Scan
 use Rattle.scan.proofs.Longest as Longest
-use Rattle.text.specs.Reader.{Lines, all, readAll, read}
+use Rattle.text.specs.Reader.{all, readAll, read}
 use Rattle.text.specs.Writer.{textOf, write}
 use Rattle.text.proofs.RoundTrip as Text
 use Rattle.look.specs.declared.Spot.{Spot}
@@ -97,6 +96,10 @@ passes-checked = Check.passes-checked
 
 pub fails-first : (img : List ℕ) {condition first second : ℕ} → check img ≡ failed condition first second → (shape img ≡ Good) × FirstFails img plain condition first second
 fails-first = Check.fails-first
+
+pub fails-checked : (img : List ℕ) {condition first second : ℕ} → shape img ≡ Good → FirstFails img plain condition first second → check img ≡ failed condition first second
+unfolding check
+fails-checked = Check.fails-checked plain
 
 -- ---- the parse, by a pack that passes: the third demand of the letter
 

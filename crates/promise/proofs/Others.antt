@@ -3,7 +3,7 @@
 use mathlib.Core.Path.{_≡_, refl, sym, ap, _∙_}
 use mathlib.Core.Bool.{Bool, true, false}
 use mathlib.Core.List.{List}
-use Prim.Native.Nat.{ℕ, zero, suc, _+_, _-_, _*_, _/_, _%_, _^_, _<_, _≤_}
+use Prim.Native.Nat.{ℕ, zero, suc, _-_, _/_, _^_, _<_, _≤_}
 use native.Mathlib.Nat.{pow-suc}
 use native.Mathlib.Omega.{arith}
 use lib.Dec.{eqb}
@@ -22,10 +22,9 @@ use Rattle.shape.proofs.Laws.{rule-good, and-then-good, each-at}
 use Rattle.shape.proofs.Good.{good-parts, good-acc, good-rej, good-layout}
 use Rattle.shape.proofs.GoodParser.{good-accept}
 use Rattle.conditions.specs.Conditions.{matched}
-use Rattle.scan.specs.Matching.{Accepts, Last}
-use Rattle.parse.specs.Leaf.{part}
+use Rattle.scan.specs.Matching.{Last}
 use Rattle.promise.specs.Refusal.{NoMatch}
-use Rattle.promise.proofs.Matching.{same-state, led, matched-below}
+use Rattle.promise.proofs.Matching.{led, matched-below}
 
 -- All terminals below k; and all but terminal 0.
 all-below : (k t : ℕ) → t < k → has (2 ^ k - 1) t ≡ 1
