@@ -1,16 +1,21 @@
 -- What the promise says of the small pack: it passes, so every run of it is an instance; the records of `tax by day` are one
--- derivation; and no leaf may go back to the name `b` in `by`. Each is one computation. Assumes nothing.
+-- derivation; no leaf may go back to the name `b` in `by`; and `by` where it is not allowed is the letter's case. Each is one computation.
+-- Assumes nothing.
 use mathlib.Core.Path.{_≡_, refl}
 use mathlib.Core.List.{List, [], _∷_}
-use Prim.Native.Nat.{ℕ}
+use Prim.Native.Nat.{ℕ, zero, suc}
 use native.Mathlib.Omega.{arith}
+use Rattle.sets.specs.Sets.{has}
+use Rattle.sets.proofs.Laws.{has-none, has-suc}
 use Rattle.text.specs.Bytes.{bytes}
-use Rattle.pack.specs.Image.{setAt, lhs, len, symbol, symbolsFrom, act, goto, move, acc, rej, lo, hi, rangeClass, classIn, validFrom, startSymbol}
-use Rattle.scan.specs.Matching.{ledFrom}
+use Rattle.pack.specs.Image.{setAt, dom, lhs, len, symbol, symbolsFrom, act, goto, move, acc, rej, lo, hi, rangeClass, classIn, validFrom, startSymbol}
+use Rattle.scan.specs.Matching.{ledFrom, Matches}
+use Rattle.parse.specs.Leaf.{part}
 use Rattle.parse.specs.Parse.{parse}
 use Rattle.promise.specs.SmallPack.{small}
 use Rattle.promise.specs.Derivation.{Trees, none, leaf, node}
 use Rattle.promise.specs.Cover.{RightLeaf}
+use Rattle.promise.specs.Refusal.{Outdone}
 use Rattle.promise.specs.Promised.{Promised}
 use Rattle.promise.proofs.Passing.{small-passes}
 use Rattle.promise.proofs.Promised.{promised}
@@ -29,3 +34,23 @@ tax-by-day =
 pub no-b-in-by : RightLeaf small (bytes "by") 2 0 1 0 → ⊥
 unfolding small setAt move lo hi rangeClass classIn acc rej act validFrom ledFrom
 no-b-in-by r = let z : _≡_ {A = ℕ} 4 0 = r .last .after 2 2 (omega arith) (omega arith) (record { way = refl }) in omega arith
+
+-- `by` at the start is the letter's case: the name, which state 0 allows, is outranked by the keyword, which it does not.
+pub by-outdone : Outdone small (bytes "by") 0 0
+unfolding small setAt move lo hi rangeClass classIn dom acc rej act validFrom ledFrom has
+by-outdone =
+    record {
+      size = 2;
+      q = 2;
+      last = record { within = omega arith; leads = record { way = refl }; here = λ z. omega arith; after = λ m p h w f. absurd (omega arith) };
+      by = λ t v m. only t v;
+    }
+  where
+    keyword : (u : ℕ) × (has (dom small 2) u ≡ 1) × Matches small (part (bytes "by") 0 2) u
+    keyword = (1, refl, record { state = 2; leads = record { way = refl }; here = refl })
+
+    only : (t : ℕ) → has 4 t ≡ 1 → (u : ℕ) × (has (dom small t) u ≡ 1) × Matches small (part (bytes "by") 0 2) u
+    only zero v = absurd (omega arith)
+    only (suc zero) v = absurd (omega arith)
+    only (suc (suc zero)) v = keyword
+    only (suc (suc (suc t))) v = absurd (omega (arith, v, has-suc 4 (suc (suc t)), has-suc 2 (suc t), has-suc 1 t, has-none t))

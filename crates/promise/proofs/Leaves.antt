@@ -1,6 +1,6 @@
 -- What a scan of the parse gives, for a pack that passes K1 to K3: a match for a parse state stands for one terminal, whose leaf is right; a
 -- match of layout is a piece of the cover; and where there is none, why. Assumes nothing.
-use mathlib.Core.Path.{_≡_, refl, sym, ap, _∙_}
+use mathlib.Core.Path.{_≡_, refl, sym, _∙_}
 use mathlib.Core.Bool.{Bool, true, false}
 use mathlib.Core.List.{List}
 use Prim.Native.Nat.{ℕ, zero, suc, _+_, _<_, _≤_, _^_}
@@ -27,6 +27,7 @@ use Rattle.parse.specs.Leaf.{part}
 use Rattle.promise.specs.Cover.{Chosen, alone, grouped, RightLeaf, Blank}
 use Rattle.promise.specs.Refusal.{NoMatch, Unexpected, instead}
 use Rattle.promise.proofs.Matching.{same-state, led, same-accepted, with-end, without-end}
+use Rattle.promise.proofs.Others.{not-valid}
 
 -- The first group of a set, or none.
 module _ (img : List ℕ) (set : ℕ) where
@@ -209,10 +210,11 @@ module _ (img : List ℕ) (passes : Passes img) where
         }
 
     -- A match of the second scan, where the first had none.
-    pub other : (s : ℕ) → place < length text → NoMatch img (drop place text) (validSet img s)
+    pub other : (s : ℕ) → s < states img → place < length text → NoMatch img (drop place text) (validSet img s)
         → (e : scan img (allButEndAndLayout img) allowance (drop place text) .spent ≡ false)
         → (scan img (allButEndAndLayout img) allowance (drop place text) .set ≡ 0 → ⊥)
         → Unexpected img text s place (scan img (allButEndAndLayout img) allowance (drop place text) .length) (lowest (scan img (allButEndAndLayout img) allowance (drop place text) .set))
-    other s l none e ne =
+    other s ls l none e ne =
         let m = matches text allowance place (allButEndAndLayout img) e ne in
-        instead _ _ (m .q) l none (m .last) (m .inside) (m .accepted) (m .least)
+        let a = rw (same-state (m .accepted .leads) (m .last .leads)) at (m .accepted .here) in
+        instead _ _ (m .q) l none (m .last) (not-valid img (passes .good) s ls (m .last) _ none a) (m .inside) (m .accepted) (m .least)

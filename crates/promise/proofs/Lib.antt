@@ -1,10 +1,14 @@
 pub mod Examples
 pub mod Leaves
+pub mod Letter
 pub mod Looks
+pub mod Main
 pub mod Marked
 pub mod Matching
+pub mod Others
 pub mod Passing
 pub mod Promised
+pub mod Records
 pub mod Stack
 pub mod Steps
 pub mod Unique

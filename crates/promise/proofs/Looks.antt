@@ -2,8 +2,7 @@
 use mathlib.Core.Path.{_≡_, refl}
 use mathlib.Core.Bool.{Bool, true, false}
 use mathlib.Core.List.{List}
-use Prim.Native.Nat.{ℕ, zero, suc, _+_, _-_, _<_}
-use native.Mathlib.Omega.{arith}
+use Prim.Native.Nat.{ℕ, zero, suc, _-_, _<_}
 use lib.Dec.{eqb, leb}
 use lib.ListN.{length, drop}
 use borrow.Author.Tests.{eqb-true, eqb-false, leb-true, leb-false}
@@ -38,7 +37,7 @@ module _ (img : List ℕ) (passes : Passes img) (text : List ℕ) (allowance : �
           simp (skip, seek, isEmpty, e, f)
           (ih (past (stop .length) (at .due) (scanned (stop .moves) at)) (more (stop .length) b (blanked img passes text (allowance - at .moves) (at .place) e (eqb-false _ _ f))))
 
-  module _ (s from : ℕ) where
+  module _ (s from : ℕ) (ls : s < states img) where
     -- The second scan.
     rescanned : (at : Spot) → Blanks img text from (at .place) → at .place < length text → NoMatch img (drop (at .place) text) (validSet img s)
         → Sees img text s from (rescan img text allowance at)
@@ -56,12 +55,12 @@ module _ (img : List ℕ) (passes : Passes img) (text : List ℕ) (allowance : �
             (record { before-end = l; none-valid = n; no-other = no-match img passes text (allowance - at .moves) (at .place) (allButEndAndLayout img) e (eqb-true _ _ f) }))
         go false e false f =
             simp (rescan, seek, isEmpty, e, f)
-            (Sight.other _ _ (scanned (stop .moves) at) b (other img passes text (allowance - at .moves) (at .place) s l n e (eqb-false _ _ f)))
+            (Sight.other _ _ (scanned (stop .moves) at) b (other img passes text (allowance - at .moves) (at .place) s ls l n e (eqb-false _ _ f)))
 
     -- The token.
-    tokened : (at : Spot) → s < states img → Blanks img text from (at .place) → Sees img text s from (token img text allowance s at)
+    tokened : (at : Spot) → Blanks img text from (at .place) → Sees img text s from (token img text allowance s at)
     unfolding token seek isEmpty choose
-    tokened at ls b = go (leb (length text) (at .place)) refl (stop .spent) refl (eqb (stop .set) 0) refl
+    tokened at b = go (leb (length text) (at .place)) refl (stop .spent) refl (eqb (stop .set) 0) refl
       where
         stop : Stop
         stop = scan img (tokenSet img s) (allowance - at .moves) (drop (at .place) text)
@@ -86,11 +85,11 @@ module _ (img : List ℕ) (passes : Passes img) (text : List ℕ) (allowance : �
     where
       go : (x : Bool) → at .due ≡ x → (y : Bool) → skip img text allowance (length text - at .place) at .spent ≡ y
           → Sees img text s (at .place) (look img text allowance s at)
-      go false e y f = simp (look, e) (tokened s (at .place) at ls none)
+      go false e y f = simp (look, e) (tokened s (at .place) ls at none)
       go true e true f = simp (look, e, f) (Sight.spent _ (skipped (at .place) (length text - at .place) at none))
       go true e false f =
           simp (look, e, f)
-          (tokened s (at .place) (settled (skip img text allowance (length text - at .place) at .at)) ls (skipped (at .place) (length text - at .place) at none))
+          (tokened s (at .place) ls (settled (skip img text allowance (length text - at .place) at .at)) (skipped (at .place) (length text - at .place) at none))
 
   -- It asks nothing of the spot, and keeps nothing from one look to the next.
   pub right-look : RightLook img text (λ s at. Unit) (look img text allowance)

@@ -1,12 +1,11 @@
 -- What it is to lead and to match, for a pack of good shape: the state that bytes lead to is one, and so is the last place; and terminal 0
 -- is in no set of a scan state, so that a valid set may have it or not. Assumes nothing.
-use mathlib.Core.Path.{_≡_, refl, sym, ap, _∙_}
+use mathlib.Core.Path.{_≡_, refl, sym, _∙_}
 use mathlib.Core.Bool.{Bool, true, false}
 use mathlib.Core.List.{List, [], _∷_}
-use Prim.Native.Nat.{ℕ, zero, suc, _<_, _≤_, _^_}
+use Prim.Native.Nat.{ℕ, zero, suc, _<_, _^_}
 use native.Mathlib.Omega.{arith}
 use lib.Dec.{ltb}
-use lib.ListN.{length, take}
 use lib.Bits.{bitAnd, and-le-l, or-lt}
 use borrow.Author.Tests.{ltb-true, ltb-false}
 use Rattle.sets.specs.Sets.{has, meet, less, single}

@@ -12,7 +12,6 @@ use Rattle.conditions.specs.Check.{passed, check}
 use Rattle.conditions.proofs.Answers.{checked-passes}
 use Rattle.look.specs.declared.Spot.{Spot}
 use Rattle.look.specs.declared.Looked.{Looked}
-use Rattle.look.specs.Look.{look}
 use Rattle.parse.specs.Parse.{Step, step, run, roomOf, parse}
 use Rattle.parse.specs.Parse as Parsing
 use Rattle.promise.specs.Derivation.{Stands, bottom}

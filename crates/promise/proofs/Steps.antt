@@ -1,7 +1,7 @@
 -- Each step of a run keeps what is promised of the records so far, for a pack that passes and a right look. Assumes nothing.
 use mathlib.Core.Path.{_≡_, refl, _∙_}
-use mathlib.Core.Bool.{Bool, true, false}
-use mathlib.Core.List.{List, _∷_, _++_}
+use mathlib.Core.Bool.{true}
+use mathlib.Core.List.{List, _∷_}
 use Prim.Native.Nat.{ℕ, zero, suc, _+_, _*_, _<_, _≤_}
 use native.Mathlib.Omega.{arith}
 use lib.Dec.{eqb}
@@ -11,7 +11,7 @@ use Rattle.sets.specs.Sets.{has}
 use Rattle.sets.proofs.Laws.{has-lt}
 use Rattle.numbers.specs.Codes.{done, noTerminal, unexpected, noGroup, stuck, allowanceUsedUp}
 use Rattle.pack.specs.declared.Action.{Action}
-use Rattle.pack.specs.Image.{terminals, states, productions, acc, validSet, act, actionOf, endOfText}
+use Rattle.pack.specs.Image.{terminals, states, productions, validSet, act, actionOf, endOfText}
 use Rattle.pack.proofs.Valid.{valid-cell}
 use Rattle.shape.proofs.Good.{good-laid, good-acc}
 use Rattle.shape.proofs.GoodParser.{Coded, error, shift, reduce, coded, good-shift, good-reduce, good-accept}

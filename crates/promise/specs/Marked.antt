@@ -1,4 +1,4 @@
--- Document 01, "Marked (proved)": the twelve cases with their variants, and the run of `tax by day`, as one table.
+-- Manual, section 6.3: the twelve marked cases with their variants, and the run of `tax by day`, as one table.
 -- proofs/Marked.antt proves it by one computed test.
 use mathlib.Core.Bool.{Bool, true, false, _&&_}
 use mathlib.Core.List.{List, [], _∷_, _++_}

@@ -24,10 +24,10 @@ pub data Unexpected (img text : List ℕ) (state place : ℕ) : ℕ → ℕ → 
   -- The text ends where it may not end.
   at-end : length text ≤ place → has (validSet img state) endOfText ≡ 0 → Unexpected img text state place 0 endOfText
   -- No terminal that is valid in the state matches. Of all but the end of the text and layout some do, at the last length at which they
-  -- are accepted or rejected, and this is the lowest of those that are accepted.
+  -- are accepted or rejected. This is the lowest of those that are accepted there, and it is not valid.
   instead : (size terminal q : ℕ) → place < length text → NoMatch img (drop place text) (validSet img state)
       → Last img (drop place text) (allButEndAndLayout img) size q
-      → has (allButEndAndLayout img) terminal ≡ 1 → Accepts img (part text place size) terminal
+      → has (validSet img state) terminal ≡ 0 → has (allButEndAndLayout img) terminal ≡ 1 → Accepts img (part text place size) terminal
       → ((t : ℕ) → has (allButEndAndLayout img) t ≡ 1 → Accepts img (part text place size) t → terminal ≤ t)
       → Unexpected img text state place size terminal
 

@@ -6,7 +6,7 @@ use mathlib.Core.List.{List}
 use Prim.Native.Nat.{ℕ, _+_, _*_, _<_, _≤_}
 use lib.ListN.{length}
 use Rattle.numbers.specs.Codes.{noTerminal, unexpected, allowanceUsedUp}
-use Rattle.pack.specs.Image.{terminals, states, productions, lhs, len, act, goto, endOfText}
+use Rattle.pack.specs.Image.{states, lhs, len, act, goto, endOfText}
 use Rattle.conditions.specs.Edges.{Back}
 use Rattle.look.specs.declared.Spot.{Spot}
 use Rattle.look.specs.declared.Looked.{Looked}

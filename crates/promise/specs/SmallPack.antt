@@ -1,4 +1,4 @@
--- Document 01, "A small pack and its runs": `by` outranks names; blanks are layout; S is `name` or `name by name`.
+-- Manual, section 6.1: the small pack. `by` outranks names; blanks are layout; S is `name` or `name by name`.
 -- Terminals: 0 the end, 1 `by`, 2 a name, 3 blanks. A line of words for each line of the text.
 use mathlib.Core.List.{List, [], _∷_, _++_}
 use Prim.Native.Nat.{ℕ, _+_}

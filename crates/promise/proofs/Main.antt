@@ -1,0 +1,141 @@
+-- What is promised, a page for the visitor: each theorem with its full statement, and where it is proved. Beside these, every function of
+-- every crate is proved to meet its contract, which says that its result is the definition's. Assumes nothing.
+use mathlib.Core.Path.{_≡_}
+use mathlib.Core.Bool.{false}
+use mathlib.Core.List.{List, []}
+use Prim.Native.Nat.{ℕ, _*_, _<_, _≤_}
+use lib.Dec.{T}
+use lib.ListN.{length, getD}
+use Rattle.sets.specs.Sets.{has, meet}
+use Rattle.numbers.specs.Codes.{done, noGroup, stuck, longestText, noTerminal}
+use Rattle.pack.specs.Image.{terminals, scanStates, dom, acc, needed, largestImage, firstNonterminal}
+use Rattle.pack.specs.Laid.{Sized}
+use Rattle.shape.specs.declared.Verdict.the-variants.{Good}
+use Rattle.shape.specs.Shape.{shape}
+use Rattle.shape.proofs.Good as Shape
+use Rattle.conditions.specs.Conditions.{K1, K2, Passes, matched}
+use Rattle.conditions.specs.Check.{plain, FirstFails, passed, failed, check}
+use Rattle.conditions.proofs.Answers as Check
+use Rattle.scan.specs.Scan.{scan}
+use Rattle.scan.specs.Matching.{Last}
+use Rattle.scan.proofs.Theory as Scan
+use Rattle.scan.proofs.Longest as Longest
+use Rattle.text.specs.Reader.{all, readAll, read}
+use Rattle.text.specs.Writer.{textOf, write}
+use Rattle.text.proofs.RoundTrip as Text
+use Rattle.look.specs.declared.Spot.{Spot}
+use Rattle.look.specs.declared.Looked.{Looked}
+use Rattle.parse.specs.Parse.{recordWords, run, start, parse}
+use Rattle.promise.specs.Cover.{Covers}
+use Rattle.promise.specs.Refusal.{Outdone}
+use Rattle.promise.specs.Promised.{Accepted, Refused, Promised}
+use Rattle.promise.specs.RightLook.{RightLook}
+use Rattle.promise.specs.Marked.{cases, allRight}
+use Rattle.promise.proofs.Records.{wordOf, LeafAt}
+use Rattle.promise.proofs.Records as Records
+use Rattle.promise.proofs.Promised as Third
+use Rattle.promise.proofs.Letter as Letter
+use Rattle.promise.proofs.Marked as Marked
+
+-- ---- the image and its text
+
+-- No pack is larger than 20,589 words.
+pub largest : (img : List ℕ) → Sized img → needed img ≤ largestImage
+largest = Shape.largest-image
+
+-- The text of an image of good shape is read back as that image, where text limit and room suffice.
+pub image-read : (img : List ℕ) → shape img ≡ Good → ((i : ℕ) → getD img i 0 < 65536) → (buffer : List ℕ) → length (textOf img) ≤ longestText → length img ≤ length buffer
+    → read (textOf img) buffer ≡ record { answer = record { code = done; number = length img }; written = img }
+image-read = Text.image-read
+
+-- A text that was read is written back byte for byte, where there is room.
+pub text-written : (text buffer out : List ℕ) → read text buffer .answer .code ≡ done → length text ≤ length out
+    → write (read text buffer .written) out ≡ record { answer = record { code = done; number = length text }; written = text }
+text-written = Text.text-written
+
+-- What was read has good shape; no two texts have one image, and no text has two.
+pub shape-read : (text buffer : List ℕ) → read text buffer .answer .code ≡ done → shape (read text buffer .written) ≡ Good
+shape-read = Text.shape-read
+
+pub one-text : (a b words : List ℕ) → readAll a ≡ all words [] → readAll b ≡ all words [] → a ≡ b
+one-text = Text.one-text
+
+pub one-image : (text a b : List ℕ) → readAll text ≡ all a [] → readAll text ≡ all b [] → a ≡ b
+one-image = Text.one-image
+
+-- ---- the scan
+
+-- Bounds of every scan, for any image.
+pub scan-stops : (img : List ℕ) (v allowance : ℕ) (bytes : List ℕ) → Scan.Stopped v allowance (length bytes) (scan img v allowance bytes)
+scan-stops = Scan.scan-stops
+
+-- With K2 a match ends at the last length at which, reading on, a terminal of the set is accepted or rejected, and is what is accepted
+-- there; where there is no match, that last length only rejects. With K1 nothing that matches the same bytes outranks it.
+module _ (img : List ℕ) (good : shape img ≡ Good) where
+  pub match-is-last : ((q : ℕ) → q < scanStates img → K2 img q) → (v allowance : ℕ) (bytes : List ℕ) → scan img v allowance bytes .spent ≡ false
+      → (scan img v allowance bytes .set ≡ 0 → ⊥)
+      → (q : ℕ) × Last img bytes v (scan img v allowance bytes .length) q × (scan img v allowance bytes .set ≡ meet (acc img q) v)
+  match-is-last k2 = Longest.match-is-last img good k2
+
+  pub no-match-rejects : ((q : ℕ) → q < scanStates img → K2 img q) → (v allowance : ℕ) (bytes : List ℕ) → scan img v allowance bytes .spent ≡ false
+      → scan img v allowance bytes .set ≡ 0 → (n q : ℕ) → Last img bytes v n q → meet (acc img q) v ≡ 0
+  no-match-rejects k2 = Longest.no-match-rejects img good k2
+
+  pub accepted-alone : (q : ℕ) → q < scanStates img → K1 img q → (t u : ℕ) → t < terminals img → has (acc img q) t ≡ 1 → has (dom img t) u ≡ 1
+      → has (matched img q) u ≡ 1 → ⊥
+  accepted-alone = Longest.accepted-alone img good
+
+-- ---- the check
+
+-- It gives zeros exactly where shape is good and the six conditions hold; and code 5 exactly for the first that fails, at its least places.
+pub checked-passes : (img : List ℕ) → check img ≡ passed → Passes img
+checked-passes = Check.checked-passes
+
+pub passes-checked : (img : List ℕ) → Passes img → check img ≡ passed
+passes-checked = Check.passes-checked
+
+pub fails-first : (img : List ℕ) {condition first second : ℕ} → check img ≡ failed condition first second → (shape img ≡ Good) × FirstFails img plain condition first second
+fails-first = Check.fails-first
+
+pub fails-checked : (img : List ℕ) {condition first second : ℕ} → shape img ≡ Good → FirstFails img plain condition first second → check img ≡ failed condition first second
+unfolding check
+fails-checked = Check.fails-checked plain
+
+-- ---- the parse, by a pack that passes: the third demand of the letter
+
+-- All of it, and what holds where the parse does not accept.
+pub promised : (img : List ℕ) → Passes img → (text tree : List ℕ) (allowance : ℕ) → Promised img text (parse img text tree allowance)
+promised = Third.promised
+
+-- For every pack that the check gives zeros for.
+module _ (img : List ℕ) (checked : check img ≡ passed) (text tree : List ℕ) (allowance : ℕ) where
+  pub never-stuck : parse img text tree allowance .parsed .code ≡ stuck → ⊥
+  never-stuck = Third.promised-checked img checked text tree allowance .never-stuck
+
+  pub never-two : parse img text tree allowance .parsed .code ≡ noGroup → ⊥
+  never-two = Third.promised-checked img checked text tree allowance .never-two
+
+  pub accepted : parse img text tree allowance .parsed .code ≡ done → Accepted img text (parse img text tree allowance .words)
+  accepted = Third.promised-checked img checked text tree allowance .accepted
+
+  pub refused : noTerminal ≤ parse img text tree allowance .parsed .code → Refused img text (parse img text tree allowance)
+  refused = Third.promised-checked img checked text tree allowance .refused
+
+-- The same for every way of looking for the next token that is right.
+pub promised-run : (img : List ℕ) → Passes img → (text : List ℕ) {Fits : ℕ → Spot → Type 0} {looks : ℕ → Spot → Looked} → RightLook img text Fits looks
+    → (room : ℕ) → Promised img text (run img looks room start)
+promised-run = Third.promised-run
+
+-- Each leaf by the numbers of its record; and `group` is never read as the names `grou` and `p`.
+pub every-leaf : {img text words : List ℕ} {place : ℕ} → Covers img text words place → (i : ℕ) → i * recordWords < length words → wordOf words i 0 < firstNonterminal
+    → LeafAt img text words i
+every-leaf = Records.every-leaf
+
+pub no-record-there : {img text words : List ℕ} {place state begin : ℕ} → Outdone img text state begin → Covers img text words place → (i : ℕ) → i * recordWords < length words
+    → wordOf words i 0 < firstNonterminal → wordOf words i 1 ≡ begin → wordOf words i 3 ≡ state → ⊥
+no-record-there = Letter.no-record-there
+
+-- ---- the marked cases, one table
+
+pub marked : T (allRight cases)
+marked = Marked.marked
