@@ -1,8 +1,6 @@
 use borrow.Author.Needs.{needs}
-use Prim.Native.Nat.{_≤_, _-_, _*_, _/_}
-use native.Mathlib.Omega.{arith}
+use Prim.Native.Nat.{_≤_, _-_, _*_}
 use lib.ListN.{length}
-use mathlib.Core.Path.{_≡_}
 use Rattle.readq.proofs.records.Statement.{statement}
 use Rattle.readq.proofs.records.Tie as tie
 
@@ -15,4 +13,4 @@ abbrev μ-loop : tie.MeasureT-loop
 pub records-spec : {M : Type 1} → statement M
 records-spec =
     tie.close
-    (tie.spec Inv-loop μ-loop)
+    (tie.spec Inv-loop μ-loop (λ c. search needs) (λ c. search needs) (λ c κs. search needs) (λ c. search needs) (λ c. search needs) (λ c. search needs) (λ c. search needs))
