@@ -39,7 +39,8 @@ refused code size terminal at = record { code = code; length = size; terminal = 
 abbrev pub found : ℕ → ℕ → Spot → Looked
 found size terminal at = refused done size terminal at
 
--- "No match: scan again with all terminals but 0 and layout; a match is code 8 with its lowest terminal, otherwise code 7."
+-- No match: a second scan for all terminals but the end of the text and layout. What it matches is unexpected, and its lowest terminal is
+-- given; where it matches nothing either, no terminal matches.
 unfoldable pub rescan : List ℕ → List ℕ → ℕ → Spot → Looked
 rescan img text allowance at =
     let f = seek img text allowance (allButEndAndLayout img) at in
@@ -55,11 +56,11 @@ rescan img text allowance at =
 unfoldable pub choose : List ℕ → ℕ → ℕ → Spot → Looked
 choose img set size at = elim (terminalOf img set) [ zero ↦ refused noGroup size 0 at | suc t ↦ found size t at ]
 
--- The set that a token of state s is scanned for: "V(s) less bit 0".
+-- The set that a token of state s is scanned for: the terminals that are valid in it, less the end of the text.
 abbrev pub tokenSet : List ℕ → ℕ → ℕ
 tokenSet img s = less (validSet img s) (single 0)
 
--- "At the end of the text the terminal is 0. Before the end, scan with V(s) less bit 0, afresh at every step."
+-- The token of state s: the end of the text where the text ends; before it what a scan for the state's terminals matches, afresh each time.
 unfoldable pub token : List ℕ → List ℕ → ℕ → ℕ → Spot → Looked
 token img text allowance s at =
     elim (leb (length text) (at .place)) [

@@ -9,14 +9,15 @@ use native.Mathlib.Omega.{arith}
 use lib.ListN.{length, getD, take, drop, set, length-append, drop-of-length-le}
 use lib.Seq.{drop-cons, take-at, sets, sets-eq, length-take-le, take-suc-set, drop-drop}
 use borrow.Author.Tests.{eq-eqb, ne-eqb}
+use Rattle.pack.specs.Image.{groupWords, mostSymbols, productionWords, setWords}
 use Rattle.text.specs.declared.Field.{Field}
 use Rattle.text.specs.declared.Kind.{Kind}
 use Rattle.text.specs.declared.Kind.the-variants.{Number, Set}
 use Rattle.text.specs.declared.Row.{Row}
 use Rattle.text.specs.declared.Row.the-variants.{Numbers, Sets, Production, Group}
 use Rattle.text.specs.Decimal.{readNumber}
-use Rattle.text.specs.Fields.{greatestWord, setWords, readSet, readField, wordsOf}
-use Rattle.text.specs.Form.{newline, comma, after, mostSymbols, prodWords, groupWords, rowWidth}
+use Rattle.text.specs.Fields.{greatestWord, readSet, readField, wordsOf}
+use Rattle.text.specs.Form.{newline, comma, after, rowWidth}
 use Rattle.text.specs.Reader.{Line, Lines, thenRead, expect, fieldThen, readFields, zeros, readSymbols, readRow, thenLines, asLine, readLines}
 use Rattle.text.specs.Reader.Line.{wrong, took}
 use Rattle.text.proofs.Lines.{then-then, then-took, lines-lines, lines-all, field-then}
@@ -195,7 +196,7 @@ module _ (row : Row) (l : Line) (text img : List ℕ) (w : ℕ) where
   pub row-production : (img₁ : List ℕ) (d r : Cursor) → row ≡ Production → Reads (thenRead l (fieldThen Number comma)) text img₁ (w + 1) d
       → Reads (thenRead (lineOf text img₁ d) readSymbols) text img (d .words + (1 + mostSymbols)) r → Reads (thenRead l (readRow row)) text img (w + rowWidth row) r
   unfolding readRow rowWidth
-  row-production img₁ d r e p q = rw e (reads-room (w + 1 + (1 + mostSymbols)) (w + prodWords) (omega arith) (reads-two l (fieldThen Number comma) readSymbols text img₁ img (w + 1) (1 + mostSymbols) d r p q))
+  row-production img₁ d r e p q = rw e (reads-room (w + 1 + (1 + mostSymbols)) (w + productionWords) (omega arith) (reads-two l (fieldThen Number comma) readSymbols text img₁ img (w + 1) (1 + mostSymbols) d r p q))
 
   pub row-group : (img₁ : List ℕ) (d r : Cursor) → row ≡ Group → Reads (thenRead l (fieldThen Set comma)) text img₁ (w + setWords) d
       → Reads (thenRead (lineOf text img₁ d) (fieldThen Number newline)) text img (d .words + 1) r → Reads (thenRead l (readRow row)) text img (w + rowWidth row) r

@@ -7,6 +7,7 @@ use native.Mathlib.Omega.{arith}
 use lib.ListN.{length, take, drop, set, length-take, length-drop, drop-of-length-le}
 use lib.Seq.{drop-cons, take-suc-set, take-all, take-at}
 use borrow.Author.Tests.{lt-ltb, le-ltb}
+use Rattle.pack.specs.Image.{largestImage}
 use Rattle.numbers.specs.declared.Answer.{Answer}
 use Rattle.numbers.specs.Codes.{notTheForm, textTooLong, wrongShape, longestText}
 use Rattle.numbers.specs.Front.{front, deliver, Delivers, bufferAfter}
@@ -16,7 +17,7 @@ use Rattle.shape.specs.declared.Verdict.{Verdict}
 use Rattle.shape.specs.declared.Verdict.the-variants.{Good, Wrong}
 use Rattle.shape.specs.Shape.{isWrong, each, sizeRule, shape}
 use Rattle.shape.proofs.Laws.{is-good, is-wrong, sizes-sized}
-use Rattle.text.specs.Form.{packLine, sizes, largestImage, tablesOf, tableAt, tableWords}
+use Rattle.text.specs.Form.{packLine, sizes, tablesOf, tableAt, tableWords}
 use Rattle.text.specs.Reader.{Line, Lines, thenRead, expect, readRow, thenLines, asLine, readLines, readTables, limited, readHead, ended, readAll, judge, read}
 use Rattle.text.specs.Reader.Line.{wrong, took}
 use Rattle.text.specs.Reader.Lines.{wrongFrom, all}

@@ -37,7 +37,7 @@ pub fn read(text: &[u8], buffer: &mut [u16]) -> Answer
             number: 0,
         };
     }
-    let mut img = [0u16; text::LARGEST_IMAGE];
+    let mut img = [0u16; pack::image::LARGEST_IMAGE];
     let c = tables::read_all(text, &mut img);
     let ok = c.ok;
     let at = c.at;

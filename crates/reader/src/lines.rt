@@ -1,17 +1,18 @@
 // Reading the lines of a text, part by part: what stands behind a place of the text becomes words of an image.
 use crate::fields::read_number;
 use crate::fields::read_set;
+use pack::image::SET_WORDS;
 use text::COMMA;
 use text::Kind;
 use text::NEWLINE;
 use text::Row;
-use text::SET_WORDS;
 ghost use mathlib.Core.Path.{_≡_};
 ghost use mathlib.Core.List.{List, [], _∷_, _++_};
 ghost use Prim.Native.Nat.{ℕ, _+_, _*_, _-_, _≤_};
 ghost use lib.ListN.{length, take, drop};
-ghost use Rattle.text.specs.Fields.{setWords, wordsOf, widthOf};
-ghost use Rattle.text.specs.Form.{newline, after, mostSymbols, rowWidth};
+ghost use Rattle.pack.specs.Image.{mostSymbols, setWords};
+ghost use Rattle.text.specs.Fields.{wordsOf, widthOf};
+ghost use Rattle.text.specs.Form.{newline, after, rowWidth};
 ghost use Rattle.text.specs.Reader.{thenRead, expect, fieldThen, readFields, zeros, readSymbols, readRow, thenLines, asLine, readLines};
 ghost use Rattle.text.specs.Reader.Line.{took};
 ghost use Rattle.reader.specs.Steps.{lineOf, linesOf, Reads, ReadsLines};
@@ -24,7 +25,7 @@ pub struct Cursor {
 }
 
 // The most symbols of a production, as the number that is read.
-const MOST_SYMBOLS: u64 = text::MOST_SYMBOLS as u64;
+const MOST_SYMBOLS: u64 = pack::image::MOST_SYMBOLS as u64;
 
 // A byte that must stand next.
 fn expect_byte(text: &[u8], at: usize, words: usize, next: u8) -> Cursor
@@ -201,7 +202,7 @@ fn symbols_then(text: &[u8], img: &mut [u16], at: usize, words: usize, len: u16)
     img[words] = len;
     let c = expect_byte(text, at, words + 1, text::after(n, NEWLINE));
     let d = read_fields(text, img, c, Kind::Number, n, NEWLINE);
-    padded(img, d, text::MOST_SYMBOLS - n)
+    padded(img, d, pack::image::MOST_SYMBOLS - n)
 }
 
 // The len of a production and its symbols, as 15 words.

@@ -12,8 +12,9 @@ ghost use mathlib.Core.Path.{_≡_};
 ghost use mathlib.Core.List.{List};
 ghost use Prim.Native.Nat.{ℕ, _+_, _*_, _<_, _≤_};
 ghost use lib.ListN.{length};
+ghost use Rattle.pack.specs.Image.{largestImage};
 ghost use Rattle.shape.specs.Shape.{each, sizeRule};
-ghost use Rattle.text.specs.Form.{largestImage, rowWidth, tableAt, tablesOf, tableWords};
+ghost use Rattle.text.specs.Form.{rowWidth, tableAt, tablesOf, tableWords};
 ghost use Rattle.text.specs.Reader.{thenRead, thenLines, readLines, readTables, limited, readHead, ended, readAll};
 ghost use Rattle.reader.specs.Steps.{lineOf, linesOf, Reads, ReadsLines};
 
@@ -154,7 +155,7 @@ pub fn read_all(text: &[u8], img: &mut [u16]) -> Cursor
     requires { ⌜ largestImage ≤ length (now img) ⌝ }
     ensures { λ r. ⌜ ReadsLines (readAll (now (text .entry))) (now (text .entry)) (now (img .exit)) largestImage r ⌝ }
 {
-    let mut head = [0u16; text::HEAD_WORDS];
+    let mut head = [0u16; pack::image::HEAD_WORDS];
     let c = read_head(text, &mut head);
     let ok = c.ok;
     if !ok {

@@ -22,7 +22,7 @@ fn back(text: &[u8], img: &[u16]) {
 }
 
 fn repack(text: &[u8]) {
-    let mut img = [0u16; 20589];
+    let mut img = [0u16; pack::image::LARGEST_IMAGE];
     let a = reader::read(text, &mut img);
     print(b"code=", a.code as u64);
     if a.code == 0 {

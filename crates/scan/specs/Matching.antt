@@ -1,4 +1,4 @@
--- What demand 3 of the letter means by matching, through the moves from scan state 0. The scan does not use this file: the
+-- Manual, section 7: what the third demand means by matching, through the moves from scan state 0. The scan does not use this file: the
 -- promises about it do. A terminal matches some bytes where it is in M = acc ∪ rej after them: it is accepted there, or rejected.
 -- Only what is accepted is a match of the scan. That a rejected terminal is one that is outranked is condition K1 of the check.
 use mathlib.Core.Path.{_≡_}

@@ -1,4 +1,4 @@
--- Document 01, "One scan", and the scan called by itself.
+-- Manual, sections 2.1 and 2.3: one scan, and the scan called by itself.
 use mathlib.Core.Bool.{Bool, true, false}
 use mathlib.Core.List.{List, [], _∷_}
 use Prim.Native.Nat.{ℕ, zero, suc, _+_, _-_, min}
@@ -18,7 +18,8 @@ use Rattle.scan.specs.declared.Scanned.{Scanned}
 abbrev pub nothing : Remembered
 nothing = record { set = 0; length = 0 }
 
--- "if acc ∩ V is not empty, remember it and the length; else if rej ∩ V is not empty, forget what was remembered"
+-- In a new state: what is accepted and valid is remembered, with the length; where there is none of it, but something valid is rejected,
+-- what was remembered is forgotten.
 unfoldable pub remember : ℕ → ℕ → ℕ → Remembered → Remembered
 remember accepted rejected n before =
     elim (isEmpty accepted) [
@@ -26,11 +27,11 @@ remember accepted rejected n before =
       | true ↦ elim (isEmpty rejected) [ false ↦ nothing | true ↦ before ]
     ]
 
--- "At the stop the remembered set and length are the result, or no match."
+-- A stop: what is remembered is the result.
 abbrev pub stopped : Remembered → ℕ → Stop
 stopped kept n = record { spent = false; set = kept .set; length = kept .length; moves = n }
 
--- "A move beyond the allowance": nothing is matched, and the moves made so far are the allowance.
+-- A move beyond the allowance is asked for: nothing is matched, and the moves made so far are the allowance.
 abbrev pub usedUp : ℕ → Stop
 usedUp n = record { spent = true; set = 0; length = 0; moves = n }
 
@@ -67,8 +68,7 @@ unfoldable pub stopCode : Bool → ℕ
 stopCode true = allowanceUsedUp
 stopCode false = done
 
--- Its answer for what a scan from the place gives: 13 or 0. "With 0 the place is the start, and set and length are 0
--- for no match."
+-- Its answer for what a scan from the place gives: 13, or 0 with set and length 0 for no match.
 abbrev pub answer : ℕ → Stop → Scanned
 answer place stop =
     record {
@@ -79,8 +79,8 @@ answer place stop =
       moves = stop .moves;
     }
 
--- "Called by itself, the scan takes an image, a text, a start, a set and an allowance". "A start past the text counts as
--- its end; bit 0 and bits from T up are dropped from the set. Order: 6, 4, then 13 or 0."
+-- Called by itself, the scan takes any image, text, start, set and allowance. It refuses with 6, then with 4. A start past the text counts
+-- as its end; bit 0 and bits from T up are dropped from the set.
 unfoldable pub scanAlone : List ℕ → List ℕ → ℕ → ℕ → ℕ → Scanned
 scanAlone img text start set allowance =
     elim (ltb longestText (length text)) [

@@ -1,4 +1,4 @@
--- Document 01, "One scan": the terminal that a token's set stands for.
+-- Manual, section 2.2: the terminal that a token's set stands for.
 use mathlib.Core.Bool.{Bool, true, false}
 use mathlib.Core.List.{List}
 use Prim.Native.Nat.{ℕ, zero, suc, _+_}
@@ -14,7 +14,7 @@ chosenIn img set (suc n) g = elim (eqb (groupSet img g) set) [ true ↦ suc (cho
 abbrev pub chosenOf : List ℕ → ℕ → ℕ
 chosenOf img set = chosenIn img set (groups img) 0
 
--- "a set of several terminals must equal a group, whose chosen terminal is taken; if it equals none, that is code 9":
+-- One terminal stands for itself; several must be the set of a group, whose chosen terminal is taken:
 -- 1 more than the terminal of a set that is not empty, or 0 for code 9.
 unfoldable pub terminalOf : List ℕ → ℕ → ℕ
 terminalOf img set = elim (several set) [ false ↦ suc (lowest set) | true ↦ chosenOf img set ]

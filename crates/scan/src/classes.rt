@@ -15,7 +15,7 @@ fn wide(x: u8) -> usize
 }
 
 // The class of a byte.
-pub fn class_of(img: &[u16], row: &[u8; 256], b: u8) -> usize
+pub fn class_of(img: &[u16], row: &[u8; pack::image::BYTE_COUNT], b: u8) -> usize
     requires { ⌜ Ready (now img) (now row) ⌝ }
     ensures { λ r. ⌜ (r ≡ classOf (now (img .entry)) b) × (r < classes (now (img .entry))) ⌝ }
 {
@@ -24,7 +24,7 @@ pub fn class_of(img: &[u16], row: &[u8; 256], b: u8) -> usize
 }
 
 // Puts the class into the row from byte lo to byte hi.
-fn fill(row: &mut [u8; 256], lo: usize, hi: usize, class: u8)
+fn fill(row: &mut [u8; pack::image::BYTE_COUNT], lo: usize, hi: usize, class: u8)
     requires { ⌜ (lo ≤ hi) × (hi < 256) ⌝ }
     ensures { λ r. ⌜ Filled (now (row .entry)) lo hi class (now (row .exit)) ⌝ }
 {
@@ -36,13 +36,13 @@ fn fill(row: &mut [u8; 256], lo: usize, hi: usize, class: u8)
 }
 
 // The classes of all bytes: 0, and over it each range in turn.
-pub fn class_row(img: &[u16]) -> [u8; 256]
+pub fn class_row(img: &[u16]) -> [u8; pack::image::BYTE_COUNT]
     requires { ⌜ Laid (now img) ⌝ }
     requires { ⌜ shape (now img) ≡ Good ⌝ }
     ensures { λ r. ⌜ Ready (now (img .entry)) r ⌝ }
 {
     let n = image::ranges(img);
-    let mut row = [0u8; 256];
+    let mut row = [0u8; pack::image::BYTE_COUNT];
     let mut r: usize = 0;
     while r < n {
         fill(

@@ -1,4 +1,4 @@
-// One scan, as document 01 has it, and the scan called by itself.
+// One scan, and the scan called by itself.
 ghost use mathlib.Core.Path.{_≡_};
 ghost use Prim.Native.Nat.{ℕ, _+_, _<_, _≤_, min};
 ghost use lib.ListN.{length};
@@ -53,7 +53,7 @@ fn remember(accepted: u64, rejected: u64, n: usize, before: Remembered) -> Remem
 }
 
 // Where scan state q moves on a byte: 0 for nowhere, or 1 more than the state.
-fn move_on(img: &[u16], row: &[u8; 256], q: usize, b: u8) -> usize
+fn move_on(img: &[u16], row: &[u8; pack::image::BYTE_COUNT], q: usize, b: u8) -> usize
     requires { ⌜ Ready (now img) (now row) ⌝ }
     requires { ⌜ q < scanStates (now img) ⌝ }
     ensures { λ r. ⌜ (r ≡ move (now (img .entry)) q (classOf (now (img .entry)) b)) × (r ≤ scanStates (now (img .entry))) ⌝ }
@@ -63,7 +63,13 @@ fn move_on(img: &[u16], row: &[u8; 256], q: usize, b: u8) -> usize
 
 // One scan over the rest of the text. Inner: its callers have tested the shape and filled the row of classes. A match from which
 // nothing valid is possible is given back at once: its length then does not wait for what was remembered before it.
-pub fn one_scan(img: &[u16], row: &[u8; 256], v: u64, allowance: usize, bytes: &[u8]) -> Stop
+pub fn one_scan(
+    img: &[u16],
+    row: &[u8; pack::image::BYTE_COUNT],
+    v: u64,
+    allowance: usize,
+    bytes: &[u8],
+) -> Stop
     requires { ⌜ Ready (now img) (now row) ⌝ }
     ensures { λ r. ⌜ r ≡ scan (now (img .entry)) v allowance (now (bytes .entry)) ⌝ }
 {

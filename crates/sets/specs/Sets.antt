@@ -1,5 +1,5 @@
--- Document 01, "The pack": "A set is 64 bits, bit t for terminal t."
--- A set of terminals is a number below 2 ^ 64. (The check also keeps sets of parse states this way, 128 bits wide.)
+-- Manual, section 1.1: sets. A set has bit t for terminal t.
+-- A set of terminals is a number below 2 ^ 64.
 -- Laws about these definitions stand in proofs/Laws.antt.
 use mathlib.Core.Bool.{Bool}
 use Prim.Native.Nat.{ℕ, zero, suc, _+_, _-_, _/_, _%_, _^_}

@@ -4,12 +4,13 @@ use mathlib.Core.List.{List, [], _∷_, _++_}
 use Prim.Native.Nat.{ℕ, zero, suc, _-_, _<_, _≤_}
 use lib.ListN.{drop}
 use borrow.Author.Tests.{le-leb, lt-leb}
+use Rattle.pack.specs.Image.{mostSymbols}
 use Rattle.text.specs.declared.Field.{Field}
 use Rattle.text.specs.declared.Kind.{Kind}
 use Rattle.text.specs.declared.Kind.the-variants.{Number}
 use Rattle.text.specs.Decimal.{readNumber}
 use Rattle.text.specs.Fields.{greatestWord, readField, wordsOf}
-use Rattle.text.specs.Form.{newline, after, mostSymbols}
+use Rattle.text.specs.Form.{newline, after}
 use Rattle.text.specs.Reader.{Line, Lines, thenRead, expect, fieldThen, readFields, zeros, readSymbols, thenLines}
 use Rattle.text.specs.Reader.Line.{wrong, took}
 use Rattle.text.specs.Reader.Lines.{wrongFrom, all}

@@ -6,10 +6,10 @@ use native.Mathlib.Numerals.{add-one}
 use native.Mathlib.Omega.{arith}
 use lib.ListN.{length, take, drop, drop-of-length-le}
 use lib.Seq.{drop-cons, getD-take}
-use Rattle.pack.specs.Image.{layoutAt, needed}
+use Rattle.pack.specs.Image.{layoutAt, needed, largestImage}
 use Rattle.pack.specs.Laid.{Sized}
 use Rattle.shape.proofs.Good.{largest-image}
-use Rattle.text.specs.Form.{Table, sizes, tablesOf, tableAt, largestImage, rowWidth, tableWords}
+use Rattle.text.specs.Form.{Table, sizes, tablesOf, tableAt, rowWidth, tableWords}
 
 pub tables-needed : (img : List ℕ) → layoutAt + tableWords (tablesOf img) ≡ needed img
 unfolding tablesOf tableWords rowWidth

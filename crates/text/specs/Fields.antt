@@ -5,6 +5,7 @@ use mathlib.Core.List.{List, [], _∷_}
 use Prim.Native.Nat.{ℕ, zero, suc, _+_, _*_, _-_, _/_, _%_}
 use lib.Dec.{leb, ltb}
 use lib.ListN.{getD}
+use Rattle.pack.specs.Image.{setWords}
 use Rattle.text.specs.declared.Field.{Field}
 use Rattle.text.specs.declared.Kind.{Kind}
 use Rattle.text.specs.declared.Kind.the-variants.{Number, Set}
@@ -41,9 +42,6 @@ unfoldable pub wordsOf : Kind → ℕ → List ℕ
 wordsOf Number value = value ∷ []
 wordsOf Set value =
     value % 65536 ∷ value / 65536 % 65536 ∷ value / 65536 / 65536 % 65536 ∷ value / 65536 / 65536 / 65536 ∷ []
-
-abbrev pub setWords : ℕ
-setWords = 4
 
 abbrev pub widthOf : Kind → ℕ
 widthOf Number = 1

@@ -3,9 +3,8 @@
 use mathlib.Core.List.{List, [], _∷_}
 use Prim.Native.Nat.{ℕ, zero, suc, _+_, _*_}
 use lib.ListN.{getD}
-use Rattle.pack.specs.Image.{terminals, nonterminals, productions, states, scanStates, classes, ranges, groups}
+use Rattle.pack.specs.Image.{terminals, nonterminals, productions, states, scanStates, classes, ranges, groups, groupWords, productionWords, setWords}
 use Rattle.text.specs.Bytes.{bytes}
-use Rattle.text.specs.Fields.{setWords}
 use Rattle.text.specs.declared.Row.{Row}
 use Rattle.text.specs.declared.Row.the-variants.{Numbers, Sets, Production, Group}
 
@@ -51,25 +50,11 @@ tablesOf img =
 abbrev pub tableAt : List ℕ → ℕ → Table
 tableAt img i = getD (tablesOf img) i sizes
 
--- The words of a production, of which 14 are for symbols, and of a group.
-abbrev pub mostSymbols : ℕ
-mostSymbols = 14
-
-abbrev pub prodWords : ℕ
-prodWords = 2 + mostSymbols
-
-abbrev pub groupWords : ℕ
-groupWords = setWords + 1
-
--- The words of the largest image.
-abbrev pub largestImage : ℕ
-largestImage = 20589
-
 -- The words of a row in the image, and of tables.
 unfoldable pub rowWidth : Row → ℕ
 rowWidth (Numbers n) = n
 rowWidth (Sets n) = n * setWords
-rowWidth Production = prodWords
+rowWidth Production = productionWords
 rowWidth Group = groupWords
 
 unfoldable pub tableWords : List Table → ℕ

@@ -5,6 +5,7 @@ use mathlib.Core.List.{List, [], _∷_, _++_}
 use Prim.Native.Nat.{ℕ, zero, suc, _-_}
 use lib.Dec.{eqb, leb, ltb}
 use lib.ListN.{length, drop}
+use Rattle.pack.specs.Image.{mostSymbols}
 use Rattle.shape.specs.declared.Verdict.the-variants.{Good, Wrong}
 use Rattle.numbers.specs.Codes.{notTheForm, textTooLong, wrongShape, longestText}
 use Rattle.shape.specs.Shape.{shape, each, sizeRule}
@@ -14,7 +15,7 @@ use Rattle.text.specs.declared.Row.{Row}
 use Rattle.text.specs.declared.Row.the-variants.{Numbers, Sets, Production, Group}
 use Rattle.numbers.specs.Front.{Delivery, refuse, deliver}
 use Rattle.text.specs.Fields.{readField, wordsOf}
-use Rattle.text.specs.Form.{Table, newline, comma, after, packLine, sizes, tablesOf, mostSymbols}
+use Rattle.text.specs.Form.{Table, newline, comma, after, packLine, sizes, tablesOf}
 
 -- A line, or a part of one: it is wrong, or these are the words so far and the bytes after it.
 pub data Line : Type 0 where

@@ -6,14 +6,14 @@ use lib.Dec.{ltb}
 use lib.ListN.{length, getD}
 use Rattle.shape.specs.declared.Verdict.the-variants.{Good, Wrong}
 use Rattle.numbers.specs.Codes.{textTooLong, wrongShape, longestText}
-use Rattle.pack.specs.Image.{layoutAt}
+use Rattle.pack.specs.Image.{layoutAt, setWords}
 use Rattle.shape.specs.Shape.{shape}
 use Rattle.text.specs.declared.Kind.{Kind}
 use Rattle.text.specs.declared.Kind.the-variants.{Number, Set}
 use Rattle.text.specs.declared.Row.{Row}
 use Rattle.text.specs.declared.Row.the-variants.{Numbers, Sets, Production, Group}
 use Rattle.numbers.specs.Front.{Delivery, refuse, deliver}
-use Rattle.text.specs.Fields.{fieldText, setWords, widthOf}
+use Rattle.text.specs.Fields.{fieldText, widthOf}
 use Rattle.text.specs.Form.{Table, newline, comma, after, packLine, sizes, tablesOf, rowWidth}
 
 -- So many fields of one kind from a place of the image on, split by commas, the last followed by `end`.

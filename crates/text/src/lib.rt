@@ -33,19 +33,6 @@ pub const COMMA: u8 = 44;
 // The greatest number of a pack text.
 pub const GREATEST_WORD: u32 = 65535;
 
-// The words of a set, of a production, of its symbols and of a group; of the sizes with the 1 before them; and of the largest image.
-pub const SET_WORDS: usize = 4;
-
-pub const PROD_WORDS: usize = 16;
-
-pub const MOST_SYMBOLS: usize = 14;
-
-pub const GROUP_WORDS: usize = 5;
-
-pub const HEAD_WORDS: usize = 9;
-
-pub const LARGEST_IMAGE: usize = 20589;
-
 // The tables, and the bytes of the longest of their names.
 pub const TABLES: usize = 9;
 

@@ -129,7 +129,7 @@ fn width(kind: Kind) -> usize
 {
     match kind {
         Kind::Number => 1,
-        Kind::Set => text::SET_WORDS,
+        Kind::Set => pack::image::SET_WORDS,
     }
 }
 

@@ -2,17 +2,17 @@
 use crate::fields::word;
 use crate::fields::write_fields;
 use crate::fields::write_name;
+use pack::image::SET_WORDS;
 use text::COMMA;
 use text::Kind;
 use text::NEWLINE;
 use text::Row;
-use text::SET_WORDS;
 ghost use mathlib.Core.Path.{_≡_};
 ghost use mathlib.Core.List.{_++_};
 ghost use Prim.Native.Nat.{_+_, _*_, _<_, _≤_};
-ghost use Rattle.pack.specs.Image.{layoutAt};
+ghost use Rattle.pack.specs.Image.{layoutAt, largestImage};
 ghost use Rattle.pack.specs.Laid.{Sized};
-ghost use Rattle.text.specs.Form.{largestImage, rowWidth, tableAt, tablesOf};
+ghost use Rattle.text.specs.Form.{rowWidth, tableAt, tablesOf};
 ghost use Rattle.text.specs.Writer.{rowText, linesText, tablesText, textOf};
 ghost use Rattle.writer.specs.Steps.{tooLong, Wrote};
 
@@ -48,8 +48,8 @@ fn row_width(row: Row) -> usize
     match row {
         Row::Numbers(n) => n,
         Row::Sets(n) => n * SET_WORDS,
-        Row::Production => text::PROD_WORDS,
-        Row::Group => text::GROUP_WORDS,
+        Row::Production => pack::image::PRODUCTION_WORDS,
+        Row::Group => pack::image::GROUP_WORDS,
     }
 }
 
@@ -118,7 +118,7 @@ fn write_tables(out: &mut [u8], at: usize, img: &[u16]) -> usize
     ensures { λ r. ⌜ Wrote (tablesText (tablesOf (now (img .entry))) (now (img .entry)) layoutAt) (now (out .entry)) at (now (out .exit)) r ⌝ }
 {
     let mut to = at;
-    let mut from: usize = text::HEAD_WORDS;
+    let mut from: usize = pack::image::HEAD_WORDS;
     let mut i: usize = 0;
     while i < text::TABLES {
         to = write_table(out, to, img, from, i);

@@ -5,8 +5,8 @@ use Prim.Native.Nat.{ℕ, _+_, _-_, _≤_}
 use native.Mathlib.Omega.{arith}
 use borrow.Author.Needs.{needs}
 use lib.ListN.{length}
-use Rattle.pack.specs.Image.{layoutAt}
-use Rattle.text.specs.Form.{largestImage, tablesOf, tableWords}
+use Rattle.pack.specs.Image.{layoutAt, largestImage}
+use Rattle.text.specs.Form.{tablesOf, tableWords}
 use Rattle.text.specs.Writer.{tablesText}
 use Rattle.text.proofs.Tables.{tablesFrom, tables-fit, words-on}
 use Rattle.writer.specs.Steps.{tooLong, Wrote}
