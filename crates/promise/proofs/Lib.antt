@@ -1,3 +1,4 @@
+pub mod Entry
 pub mod Examples
 pub mod Leaves
 pub mod Letter

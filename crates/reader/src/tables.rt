@@ -4,8 +4,6 @@ use crate::lines::as_line;
 use crate::lines::expect;
 use crate::lines::read_lines;
 use crate::lines::read_row;
-use pack::image;
-use shape::Verdict;
 use shape::is_wrong;
 use text::Row;
 ghost use mathlib.Core.Path.{_≡_};
@@ -13,47 +11,9 @@ ghost use mathlib.Core.List.{List};
 ghost use Prim.Native.Nat.{ℕ, _+_, _*_, _<_, _≤_};
 ghost use lib.ListN.{length};
 ghost use Rattle.pack.specs.Image.{largestImage};
-ghost use Rattle.shape.specs.Shape.{each, sizeRule};
 ghost use Rattle.text.specs.Form.{rowWidth, tableAt, tablesOf, tableWords};
 ghost use Rattle.text.specs.Reader.{thenRead, thenLines, readLines, readTables, limited, readHead, ended, readAll};
 ghost use Rattle.reader.specs.Steps.{lineOf, linesOf, Reads, ReadsLines};
-
-const LEAST: [usize; 9] = [0, 1, 1, 1, 1, 1, 1, 0, 0];
-
-const GREATEST: [usize; 9] = [0, 64, 32, 128, 128, 128, 32, 64, 32];
-
-// The size at word i is there and within its limits.
-fn size_rule(img: &[u16], i: usize) -> Verdict
-    requires { ⌜ i < 9 ⌝ }
-    ensures { λ r. ⌜ r ≡ sizeRule (now (img .entry)) i ⌝ }
-{
-    if img.len() <= i {
-        return Verdict::Wrong(i);
-    }
-    let size = image::word_at(img, i);
-    if size < LEAST[i] {
-        return Verdict::Wrong(i);
-    }
-    if GREATEST[i] < size {
-        return Verdict::Wrong(i);
-    }
-    Verdict::Good
-}
-
-// All eight sizes are within their limits.
-fn sizes(img: &[u16]) -> Verdict
-    ensures { λ r. ⌜ r ≡ each (sizeRule (now (img .entry))) 8 1 ⌝ }
-{
-    let mut i: usize = 1;
-    while i < 9 {
-        let v = size_rule(img, i);
-        if is_wrong(v) {
-            return v;
-        }
-        i += 1;
-    }
-    Verdict::Good
-}
 
 // The sizes are a part of the form of their line.
 fn limited(head: &[u16], c: Cursor) -> Cursor
@@ -66,7 +26,7 @@ fn limited(head: &[u16], c: Cursor) -> Cursor
     if !ok {
         return c;
     }
-    if is_wrong(sizes(&head[..words])) {
+    if is_wrong(shape::sizes(&head[..words])) {
         return Cursor {
             ok: false,
             at,

@@ -1,7 +1,8 @@
 // The shape of any words: good, or the place of the first wrong one.
 ghost use mathlib.Core.Path.{_≡_};
+ghost use Rattle.pack.specs.Image.{sizeWords};
 ghost use Rattle.pack.specs.Laid.{Laid};
-ghost use Rattle.shape.specs.Shape.{isWrong, verdictCode, verdictPlace, parserRules, scannerRules, shape};
+ghost use Rattle.shape.specs.Shape.{each, sizeRule, isWrong, verdictCode, verdictPlace, parserRules, scannerRules, shape};
 use pack::image;
 use tables::Ruled;
 
@@ -86,6 +87,13 @@ fn scanner_rules(img: &[u16]) -> Verdict
         return scan;
     }
     tables::rows(img, Ruled::Group, image::groups(img))
+}
+
+// The eight sizes of any words: all within their limits, or the place of the first that is not.
+pub fn sizes(img: &[u16]) -> Verdict
+    ensures { λ r. ⌜ r ≡ each (sizeRule (now (img .entry))) sizeWords 1 ⌝ }
+{
+    tables::sizes(img)
 }
 
 // The shape of any words: good, or the place of the first wrong one.

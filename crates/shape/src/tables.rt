@@ -30,7 +30,7 @@ fn size_rule(img: &[u16], i: usize) -> Verdict
     rule(rules::size_right(img, i), i)
 }
 
-fn sizes(img: &[u16]) -> Verdict
+pub fn sizes(img: &[u16]) -> Verdict
     ensures { λ r. ⌜ r ≡ each (sizeRule (now (img .entry))) sizeWords 1 ⌝ }
 {
     let mut i: usize = 1;
