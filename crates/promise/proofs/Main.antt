@@ -5,7 +5,7 @@ use mathlib.Core.Bool.{false}
 use mathlib.Core.List.{List, []}
 use Prim.Native.Nat.{ℕ, _*_, _<_, _≤_}
 use lib.Dec.{T}
-use lib.ListN.{length, getD}
+use lib.ListN.{length, getD, take}
 use Rattle.sets.specs.Sets.{has, meet}
 use Rattle.numbers.specs.Codes.{done, noGroup, stuck, longestText, noTerminal}
 use Rattle.pack.specs.Image.{terminals, scanStates, dom, acc, needed, largestImage, firstNonterminal}
@@ -15,6 +15,7 @@ use Rattle.shape.specs.Shape.{shape}
 use Rattle.shape.proofs.Good as Shape
 use Rattle.conditions.specs.Conditions.{K1, K2, Passes, matched}
 use Rattle.conditions.specs.Check.{plain, FirstFails, passed, failed, check}
+use Rattle.conditions.specs.declared.Checked.{Checked}
 use Rattle.conditions.proofs.Answers as Check
 use Rattle.scan.specs.Scan.{scan}
 use Rattle.scan.specs.Matching.{Last}
@@ -25,7 +26,8 @@ use Rattle.text.specs.Writer.{textOf, write}
 use Rattle.text.proofs.RoundTrip as Text
 use Rattle.look.specs.declared.Spot.{Spot}
 use Rattle.look.specs.declared.Looked.{Looked}
-use Rattle.parse.specs.Parse.{recordWords, run, start, parse}
+use Rattle.parse.specs.declared.Parsed.{Parsed}
+use Rattle.parse.specs.Parse.{recordWords, run, start, parse, treeAfter}
 use Rattle.promise.specs.Cover.{Covers}
 use Rattle.promise.specs.Refusal.{Outdone}
 use Rattle.promise.specs.Promised.{Accepted, Refused, Promised}
@@ -34,6 +36,7 @@ use Rattle.promise.specs.Marked.{cases, allRight}
 use Rattle.promise.proofs.Records.{wordOf, LeafAt}
 use Rattle.promise.proofs.Records as Records
 use Rattle.promise.proofs.Promised as Third
+use Rattle.promise.proofs.Entry as Entry
 use Rattle.promise.proofs.Letter as Letter
 use Rattle.promise.proofs.Marked as Marked
 
@@ -120,6 +123,18 @@ module _ (img : List ℕ) (checked : check img ≡ passed) (text tree : List ℕ
 
   pub refused : noTerminal ≤ parse img text tree allowance .parsed .code → Refused img text (parse img text tree allowance)
   refused = Third.promised-checked img checked text tree allowance .refused
+
+-- The same of the functions themselves, by their contracts alone: of what `check` gave, and of what `parse` returned and left in the tree.
+module _ (img text tree tree′ : List ℕ) (allowance : ℕ) (c : Checked) (r : Parsed) (checks : c ≡ check img) (zeros : c ≡ passed)
+    (gives : r ≡ parse img text tree allowance .parsed) (leaves : tree′ ≡ treeAfter tree (parse img text tree allowance)) where
+  pub returns-no-stuck : r .code ≡ stuck → ⊥
+  returns-no-stuck = Entry.never-stuck img text tree tree′ allowance c r checks zeros gives leaves
+
+  pub returns-no-two : r .code ≡ noGroup → ⊥
+  returns-no-two = Entry.never-two img text tree tree′ allowance c r checks zeros gives leaves
+
+  pub leaves-derivation : r .code ≡ done → Accepted img text (take (r .records * recordWords) tree′)
+  leaves-derivation = Entry.accepted img text tree tree′ allowance c r checks zeros gives leaves
 
 -- The same for every way of looking for the next token that is right.
 pub promised-run : (img : List ℕ) → Passes img → (text : List ℕ) {Fits : ℕ → Spot → Type 0} {looks : ℕ → Spot → Looked} → RightLook img text Fits looks
