@@ -3,13 +3,13 @@
 use mathlib.Core.Path.{_≡_, refl, sym, ap, _∙_}
 use mathlib.Core.Bool.{Bool, true, false}
 use mathlib.Core.List.{List}
-use Prim.Native.Nat.{ℕ, _*_, _<_, _≤_}
+use Prim.Native.Nat.{ℕ, _*_, _≤_}
 use native.Mathlib.Omega.{arith}
 use lib.Dec.{ltb}
 use lib.ListN.{length, take, drop}
 use lib.Seq.{take-at}
 use borrow.Author.Tests.{ltb-true, ltb-false}
-use Rattle.numbers.specs.Codes.{done, noGroup, stuck, longestText, queryTooLong}
+use Rattle.numbers.specs.Codes.{done, noTerminal, noGroup, stuck, longestText, queryTooLong}
 use Rattle.conditions.specs.declared.Checked.{Checked}
 use Rattle.conditions.specs.Conditions.{Passes}
 use Rattle.conditions.specs.Check.{passed, check}
@@ -17,7 +17,7 @@ use Rattle.conditions.proofs.Answers.{checked-passes}
 use Rattle.parse.specs.declared.Parsed.{Parsed}
 use Rattle.parse.specs.Parse.{Ending, recordWords, parse, treeAfter}
 use Rattle.parse.proofs.Bounded.{parse-bounded, refused-long}
-use Rattle.promise.specs.Promised.{Accepted}
+use Rattle.promise.specs.Promised.{Accepted, Refused}
 use Rattle.promise.proofs.Promised.{promised-checked}
 
 -- A pack that was checked, and a parse by it: its numbers, and the lent tree before and after.
@@ -35,21 +35,25 @@ module _ (img text tree tree′ : List ℕ) (allowance : ℕ) (c : Checked) (r :
   pub never-two : r .code ≡ noGroup → ⊥
   never-two e = promised-checked img passing text tree allowance .never-two (sym code-is ∙ e)
 
-  -- What was written is so many records.
-  written : r .code ≡ done → length (parse img text tree allowance .words) ≡ r .records * recordWords
-  written e = go (ltb longestText (length text)) refl
+  -- What was written is so many records; with them the numbers and the front of the tree are the whole ending.
+  written : (r .code ≡ queryTooLong → ⊥) → length (parse img text tree allowance .words) ≡ r .records * recordWords
+  written n = go (ltb longestText (length text)) refl
     where
       go : (x : Bool) → ltb longestText (length text) ≡ x → length (parse img text tree allowance .words) ≡ r .records * recordWords
-      go true l =
-          let z : parse img text tree allowance .parsed .code ≡ queryTooLong = ap (λ (w : Ending). w .parsed .code) (refused-long img text tree allowance (ltb-true longestText (length text) l)) in
-          absurd (omega (arith, code-is, z, e))
+      go true l = absurd (n (code-is ∙ ap (λ (w : Ending). w .parsed .code) (refused-long img text tree allowance (ltb-true longestText (length text) l))))
       go false l =
           parse-bounded img text tree allowance (ltb-false longestText (length text) l) (checked-passes img passing .good) .words
           ∙ ap (λ (p : Parsed). p .records * recordWords) (sym gives)
 
+  front-is : (r .code ≡ queryTooLong → ⊥) → take (r .records * recordWords) tree′ ≡ parse img text tree allowance .words
+  front-is n =
+      ap (take (r .records * recordWords)) leaves
+      ∙ take-at (parse img text tree allowance .words) (drop (length (parse img text tree allowance .words)) tree) (r .records * recordWords) (written n)
+
   -- The words at the front of the tree, as many records as were told, are the derivation.
   pub accepted : r .code ≡ done → Accepted img text (take (r .records * recordWords) tree′)
-  accepted e =
-      let front : take (r .records * recordWords) tree′ ≡ parse img text tree allowance .words
-      = ap (take (r .records * recordWords)) leaves ∙ take-at (parse img text tree allowance .words) (drop (length (parse img text tree allowance .words)) tree) (r .records * recordWords) (written e) in
-      rw front (promised-checked img passing text tree allowance .accepted (sym code-is ∙ e))
+  accepted e = rw (front-is (λ z. omega arith)) (promised-checked img passing text tree allowance .accepted (sym code-is ∙ e))
+
+  -- And where the parse was refused, they are the trees so far.
+  pub refused : noTerminal ≤ r .code → Refused img text (record { parsed = r; words = take (r .records * recordWords) tree′ })
+  refused l = rw (front-is (λ z. omega arith), gives) (promised-checked img passing text tree allowance .refused (rw code-is at l))

@@ -32,6 +32,7 @@ use Rattle.promise.specs.Cover.{Covers}
 use Rattle.promise.specs.Refusal.{Outdone}
 use Rattle.promise.specs.Promised.{Accepted, Refused, Promised}
 use Rattle.promise.specs.RightLook.{RightLook}
+use Rattle.promise.specs.SmallPack.{small}
 use Rattle.promise.specs.Marked.{cases, allRight}
 use Rattle.promise.proofs.Records.{wordOf, LeafAt}
 use Rattle.promise.proofs.Records as Records
@@ -39,6 +40,7 @@ use Rattle.promise.proofs.Promised as Third
 use Rattle.promise.proofs.Entry as Entry
 use Rattle.promise.proofs.Letter as Letter
 use Rattle.promise.proofs.Marked as Marked
+use Rattle.promise.proofs.Passing as Passing
 
 -- ---- the image and its text
 
@@ -135,6 +137,13 @@ module _ (img text tree tree′ : List ℕ) (allowance : ℕ) (c : Checked) (r :
 
   pub leaves-derivation : r .code ≡ done → Accepted img text (take (r .records * recordWords) tree′)
   leaves-derivation = Entry.accepted img text tree tree′ allowance c r checks zeros gives leaves
+
+  pub leaves-trees : noTerminal ≤ r .code → Refused img text (record { parsed = r; words = take (r .records * recordWords) tree′ })
+  leaves-trees = Entry.refused img text tree tree′ allowance c r checks zeros gives leaves
+
+-- Packs that pass are there: the small one does.
+pub small-passes : Passes small
+small-passes = Passing.small-passes
 
 -- The same for every way of looking for the next token that is right.
 pub promised-run : (img : List ℕ) → Passes img → (text : List ℕ) {Fits : ℕ → Spot → Type 0} {looks : ℕ → Spot → Looked} → RightLook img text Fits looks

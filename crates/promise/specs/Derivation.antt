@@ -9,7 +9,8 @@ use Rattle.parse.specs.Parse.{leafRecord, nodeRecord}
 -- Trees that stand side by side: their roots are these symbols, and these are the words of their records, a node after its children.
 -- Each tree begins in the parse state that its root has recorded, the first in state r, and leads by a shift or a goto to the state
 -- that the next one begins in; the last leads to state u. The children of a node are the right side of its production, and the first
--- of them begins where the node does.
+-- of them begins where the node does. Which derivation of the text it is, where the tables could give several, is fixed by the definition
+-- of the parse itself; here stands what every result keeps.
 pub data Trees (img : List ℕ) : ℕ → List ℕ → List ℕ → ℕ → Type 0 where
   none : {r : ℕ} → Trees img r [] [] r
   leaf : {r t v u : ℕ} {symbols words : List ℕ} (start size : ℕ) → t < terminals img → act img r t ≡ 2 + 2 * v

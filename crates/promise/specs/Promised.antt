@@ -18,7 +18,8 @@ pub record Accepted (img text words : List ℕ) : Type 0 where
   pub cover : Covers img text words (length text)
 
 -- Where the parse was refused: the records so far are trees that stand side by side on the stack, and they cover the text up to the
--- place that is given, with leaves that are right. With 7 and 8 also why, for the state on top.
+-- place that is given, with leaves that are right. With 7 and 8 also what does not match there, for the state on top. That the refusal is
+-- due, and how far layout is skipped before it, is fixed by the definition of the parse itself.
 pub record Refused (img text : List ℕ) (e : Ending) : Type 0 where
   pub state : ℕ
   pub below : List ℕ
