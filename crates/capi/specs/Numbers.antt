@@ -5,8 +5,8 @@ use Prim.Native.Nat.{ℕ}
 use lib.Dec.{ltb}
 use lib.ListN.{length, getD}
 use Rattle.numbers.specs.Front.{Delivery, deliver, bufferAfter}
-use Rattle.shape.specs.declared.Verdict.{Verdict}
-use Rattle.shape.specs.Shape.{verdictCode, verdictPlace}
+use Rattle.numbers.specs.declared.Verdict.{Verdict}
+use Rattle.numbers.specs.Verdicts.{verdictCode, verdictPlace}
 use Rattle.conditions.specs.declared.Checked.{Checked}
 use Rattle.scan.specs.declared.Scanned.{Scanned}
 use Rattle.parse.specs.declared.Parsed.{Parsed}

@@ -81,8 +81,8 @@ pub extern "C" fn zhg_shape(img: &[u16], out: &mut [u64]) -> usize
     ensures { λ r. ⌜ now (out .exit) ≡ written (now (out .entry)) (ofShape (shape (now (img .entry)))) ⌝ }
 {
     let v = shape::shape(img);
-    let code = shape::verdict_code(v) as u64;
-    let place = shape::verdict_place(v) as u64;
+    let code = numbers::verdict_code(v) as u64;
+    let place = numbers::verdict_place(v) as u64;
     put2(out, code, place)
 }
 

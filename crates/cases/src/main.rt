@@ -53,8 +53,8 @@ fn join(raw: &[u8], img: &mut [u16]) {
 
 fn shape(img: &[u16]) {
     let v = shape::shape(img);
-    print(shape::verdict_code(v) as u64, b',');
-    print(shape::verdict_place(v) as u64, b'\n');
+    print(numbers::verdict_code(v) as u64, b',');
+    print(numbers::verdict_place(v) as u64, b'\n');
 }
 
 fn scan(img: &[u16], text: &[u8], head: &[u8; 40]) {

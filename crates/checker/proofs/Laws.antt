@@ -4,9 +4,10 @@ use mathlib.Core.Bool.{true, false}
 use mathlib.Core.List.{List, [], _∷_}
 use Prim.Native.Nat.{ℕ}
 use Rattle.numbers.specs.Codes.{wrongShape}
-use Rattle.shape.specs.declared.Verdict.{Verdict}
-use Rattle.shape.specs.declared.Verdict.the-variants.{Good, Wrong}
-use Rattle.shape.specs.Shape.{isWrong, verdictPlace, shape}
+use Rattle.numbers.specs.declared.Verdict.{Verdict}
+use Rattle.numbers.specs.declared.Verdict.the-variants.{Good, Wrong}
+use Rattle.numbers.specs.Verdicts.{isWrong, verdictPlace}
+use Rattle.shape.specs.Shape.{shape}
 use Rattle.shape.proofs.Laws.{is-good, is-wrong}
 use Rattle.conditions.specs.declared.Checked.{Checked}
 use Rattle.conditions.specs.declared.Finding.{Finding}

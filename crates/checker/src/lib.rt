@@ -3,7 +3,7 @@ ghost use mathlib.Core.Path.{_≡_};
 ghost use mathlib.Core.List.{[], _∷_};
 ghost use Rattle.pack.specs.Image.{states};
 ghost use Rattle.pack.specs.Laid.{Laid};
-ghost use Rattle.shape.specs.declared.Verdict.the-variants.{Good};
+ghost use Rattle.numbers.specs.declared.Verdict.the-variants.{Good};
 ghost use Rattle.shape.specs.Shape.{shape};
 ghost use Rattle.conditions.specs.Check.{c4, c5, c6, plain, passed, report, firstFailing, check};
 ghost use Rattle.edges.specs.Tables.{Sources, Carried, Reducers, Goers};
@@ -95,10 +95,10 @@ pub fn check(img: &[u16]) -> Checked
     ensures { λ r. ⌜ r ≡ check (now (img .entry)) ⌝ }
 {
     let v = shape::shape(img);
-    if shape::is_wrong(v) {
+    if numbers::is_wrong(v) {
         return Checked {
             code: numbers::WRONG_SHAPE,
-            number: shape::verdict_place(v),
+            number: numbers::verdict_place(v),
             first: 0,
             second: 0,
         };

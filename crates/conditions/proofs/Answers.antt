@@ -9,8 +9,8 @@ use lib.Dec.{eqb, ltb}
 use lib.Arith.{lt-of-le-ne}
 use borrow.Author.Tests.{eqb-true, eqb-false, ltb-true, ltb-false}
 use Rattle.numbers.specs.Codes.{wrongShape}
-use Rattle.shape.specs.declared.Verdict.{Verdict}
-use Rattle.shape.specs.declared.Verdict.the-variants.{Good, Wrong}
+use Rattle.numbers.specs.declared.Verdict.{Verdict}
+use Rattle.numbers.specs.declared.Verdict.the-variants.{Good, Wrong}
 use Rattle.shape.specs.Shape.{shape}
 use Rattle.conditions.specs.declared.Checked.{Checked}
 use Rattle.conditions.specs.declared.Finding.{Finding}

@@ -4,7 +4,7 @@ use mathlib.Core.Bool.{Bool, true, false}
 use mathlib.Core.List.{List, [], _∷_}
 use Prim.Native.Nat.{ℕ, zero, suc, _+_, _<_}
 use Rattle.numbers.specs.Codes.{done, wrongShape, checkFails}
-use Rattle.shape.specs.declared.Verdict.the-variants.{Good, Wrong}
+use Rattle.numbers.specs.declared.Verdict.the-variants.{Good, Wrong}
 use Rattle.pack.specs.Image.{productions, states, scanStates, act}
 use Rattle.shape.specs.Shape.{shape}
 use Rattle.conditions.specs.declared.Checked.{Checked}

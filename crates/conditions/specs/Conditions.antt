@@ -6,7 +6,7 @@ use mathlib.Core.List.{List}
 use Prim.Native.Nat.{ℕ, zero, suc, _+_, _*_, _-_, _<_}
 use lib.Dec.{eqb, leb}
 use Rattle.sets.specs.Sets.{has, member, meet, union, subset, several}
-use Rattle.shape.specs.declared.Verdict.the-variants.{Good}
+use Rattle.numbers.specs.declared.Verdict.the-variants.{Good}
 use Rattle.pack.specs.Image.{terminals, productions, states, scanStates, classes, groups, dom, lhs, len, symbol, act, goto, move, acc, rej, poss, groupSet, validSet, startSymbol}
 use Rattle.shape.specs.Shape.{shape}
 use Rattle.conditions.specs.Tests.{allBelow, someBelow, implies, same}

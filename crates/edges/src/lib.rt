@@ -4,7 +4,7 @@ ghost use Prim.Native.Nat.{ℕ, _+_, _<_};
 ghost use lib.ListN.{length};
 ghost use Rattle.pack.specs.Image.{terminals, nonterminals, states, act, goto};
 ghost use Rattle.pack.specs.Laid.{Laid};
-ghost use Rattle.shape.specs.declared.Verdict.the-variants.{Good};
+ghost use Rattle.numbers.specs.declared.Verdict.the-variants.{Good};
 ghost use Rattle.shape.specs.Shape.{shape};
 ghost use Rattle.conditions.specs.Edges.{symbols, shiftOf, edgeTo};
 ghost use Rattle.edges.specs.Rows.{PutOne, PutEach};

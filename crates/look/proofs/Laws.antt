@@ -14,7 +14,7 @@ use lib.Bits.{bitAnd, and-le-l}
 use borrow.Author.Tests.{eq-eqb, ne-eqb, le-leb, lt-leb, leb-true, leb-false, eqb-true, eqb-false}
 use Rattle.sets.specs.Sets.{has, single, less, isEmpty, several, lowest}
 use Rattle.sets.proofs.Laws.{has-above, lowest-lt, lowest-in}
-use Rattle.shape.specs.declared.Verdict.the-variants.{Good}
+use Rattle.numbers.specs.declared.Verdict.the-variants.{Good}
 use Rattle.pack.specs.Image.{terminals, states, groups, act, layout, allButEnd, allButEndAndLayout, groupSet, chosen}
 use Rattle.shape.specs.Shape.{shape}
 use Rattle.pack.proofs.Valid.{valid-lt}

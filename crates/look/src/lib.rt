@@ -3,7 +3,7 @@ use pack::image;
 ghost use mathlib.Core.Path.{_≡_};
 ghost use Prim.Native.Nat.{ℕ, _+_, _-_, _^_, _<_, _≤_};
 ghost use lib.ListN.{length};
-ghost use Rattle.shape.specs.declared.Verdict.the-variants.{Good};
+ghost use Rattle.numbers.specs.declared.Verdict.the-variants.{Good};
 ghost use Rattle.pack.specs.Image.{terminals, states};
 ghost use Rattle.pack.specs.Laid.{Laid};
 ghost use Rattle.shape.specs.Shape.{shape};

@@ -1,7 +1,9 @@
-// The codes that are given back, by name and in the order of their numbers, the limits that they guard, and how words are handed to a
-// caller.
+// The codes that are given back, by name and in the order of their numbers, the limits that they guard, what the shape test says, and
+// how words are handed to a caller.
+ghost use mathlib.Core.Path.{_≡_};
 ghost use lib.ListN.{length};
 ghost use Rattle.numbers.specs.Front.{Delivers, deliver};
+ghost use Rattle.numbers.specs.Verdicts.{isWrong, verdictCode, verdictPlace};
 
 pub const DONE: u8 = 0;
 
@@ -41,6 +43,42 @@ pub const LONGEST_TEXT: usize = 65535;
 pub const MOST_RECORDS: usize = 65535;
 
 pub const MOST_STATES: usize = 512;
+
+// What the shape test says: every word is right, or this is the place of the first wrong one.
+pub enum Verdict {
+    Good,
+    Wrong(usize),
+}
+
+// Whether some word is wrong.
+pub fn is_wrong(v: Verdict) -> bool
+    ensures { λ r. ⌜ r ≡ isWrong v ⌝ }
+{
+    match v {
+        Verdict::Good => false,
+        Verdict::Wrong(_) => true,
+    }
+}
+
+// The code of a verdict.
+pub fn verdict_code(v: Verdict) -> u8
+    ensures { λ r. ⌜ r ≡ verdictCode v ⌝ }
+{
+    match v {
+        Verdict::Good => DONE,
+        Verdict::Wrong(_) => WRONG_SHAPE,
+    }
+}
+
+// The place of the first wrong word, and 0 where there is none.
+pub fn verdict_place(v: Verdict) -> usize
+    ensures { λ r. ⌜ r ≡ verdictPlace v ⌝ }
+{
+    match v {
+        Verdict::Good => 0,
+        Verdict::Wrong(place) => place,
+    }
+}
 
 // What is given back by a function that fills a buffer: the code, and the number that goes with it.
 pub struct Answer {

@@ -10,12 +10,13 @@ use lib.Dec.{eqb, leb, ltb}
 use lib.ListN.{length, getD, take, drop, take-append-drop, replicate, length-replicate}
 use lib.Seq.{length-take-le, drop-drop}
 use borrow.Author.Tests.{eq-eqb, ne-eqb, le-leb, lt-leb, lt-ltb, le-ltb}
-use Rattle.shape.specs.declared.Verdict.{Verdict}
-use Rattle.shape.specs.declared.Verdict.the-variants.{Good, Wrong}
+use Rattle.numbers.specs.declared.Verdict.{Verdict}
+use Rattle.numbers.specs.declared.Verdict.the-variants.{Good, Wrong}
 use Rattle.numbers.specs.Codes.{queryTooLong, wrongShape}
 use Rattle.pack.specs.Image.{terminals, act, actionOf}
 use Rattle.pack.specs.Laid.{Laid}
-use Rattle.shape.specs.Shape.{isWrong, verdictPlace, shape}
+use Rattle.numbers.specs.Verdicts.{isWrong, verdictPlace}
+use Rattle.shape.specs.Shape.{shape}
 use Rattle.shape.proofs.Laws.{is-good, is-wrong}
 use Rattle.parse.specs.declared.Parsed.{Parsed}
 use Rattle.look.specs.declared.Spot.{Spot}

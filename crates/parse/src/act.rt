@@ -6,7 +6,7 @@ ghost use mathlib.Core.Path.{_≡_};
 ghost use mathlib.Core.Bool.{true, false};
 ghost use Prim.Native.Nat.{ℕ, _+_, _*_, _-_, _<_, _≤_};
 ghost use lib.ListN.{length, getD};
-ghost use Rattle.shape.specs.declared.Verdict.the-variants.{Good};
+ghost use Rattle.numbers.specs.declared.Verdict.the-variants.{Good};
 ghost use Rattle.pack.specs.Image.{terminals, productions, states, act, actionOf};
 ghost use Rattle.pack.specs.Laid.{Laid};
 ghost use Rattle.shape.specs.Shape.{shape};

@@ -42,8 +42,8 @@ pub fn parse(img: &[u16], text: &[u8], tree: &mut [u16], allowance: u32) -> Pars
         return refusal(numbers::QUERY_TOO_LONG, 0);
     }
     let v = shape::shape(img);
-    if shape::is_wrong(v) {
-        return refusal(numbers::WRONG_SHAPE, shape::verdict_place(v));
+    if numbers::is_wrong(v) {
+        return refusal(numbers::WRONG_SHAPE, numbers::verdict_place(v));
     }
     run::run(img, text, tree, allowance)
 }

@@ -7,7 +7,7 @@ use look::Spot;
 ghost use mathlib.Core.Path.{_≡_};
 ghost use Prim.Native.Nat.{ℕ, _+_, _*_, _-_, _/_, _<_, _≤_, min};
 ghost use lib.ListN.{length, getD, drop};
-ghost use Rattle.shape.specs.declared.Verdict.the-variants.{Good};
+ghost use Rattle.numbers.specs.declared.Verdict.the-variants.{Good};
 ghost use Rattle.shape.specs.Shape.{shape};
 ghost use Rattle.parse.specs.Inner.{Stacked, Roomy, KeptTurn, standing, bounded, told};
 ghost use Rattle.scan.specs.Ready.{Ready};

@@ -3,7 +3,7 @@ ghost use mathlib.Core.Path.{_≡_};
 ghost use Prim.Native.Nat.{_<_, _≤_};
 ghost use Rattle.pack.specs.Image.{mostSymbols, states, productions, len};
 ghost use Rattle.pack.specs.Laid.{Laid};
-ghost use Rattle.shape.specs.declared.Verdict.the-variants.{Good};
+ghost use Rattle.numbers.specs.declared.Verdict.the-variants.{Good};
 ghost use Rattle.shape.specs.Shape.{shape};
 ghost use Rattle.conditions.specs.Tests.{allBelow};
 ghost use Rattle.conditions.specs.Conditions.{k4, steps, ends, k5, k6};

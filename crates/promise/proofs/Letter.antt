@@ -15,7 +15,7 @@ use Rattle.sets.specs.Sets.{has}
 use Rattle.sets.proofs.Laws.{has-lt, has-none, has-and, has-or}
 use Rattle.numbers.specs.Codes.{noTerminal, unexpected, allowanceUsedUp}
 use Rattle.pack.specs.Image.{states, dom, acc, rej, validSet, firstNonterminal}
-use Rattle.shape.specs.declared.Verdict.the-variants.{Good}
+use Rattle.numbers.specs.declared.Verdict.the-variants.{Good}
 use Rattle.shape.specs.Shape.{shape}
 use Rattle.shape.proofs.Good.{good-start}
 use Rattle.conditions.specs.Conditions.{Passes, matched}

@@ -10,7 +10,7 @@ use Rattle.sets.specs.Sets.{has, meet}
 use Rattle.numbers.specs.Codes.{done, noGroup, stuck, longestText, noTerminal}
 use Rattle.pack.specs.Image.{terminals, scanStates, dom, acc, needed, largestImage, firstNonterminal}
 use Rattle.pack.specs.Laid.{Sized}
-use Rattle.shape.specs.declared.Verdict.the-variants.{Good}
+use Rattle.numbers.specs.declared.Verdict.the-variants.{Good}
 use Rattle.shape.specs.Shape.{shape}
 use Rattle.shape.proofs.Good as Shape
 use Rattle.conditions.specs.Conditions.{K1, K2, Passes, matched}

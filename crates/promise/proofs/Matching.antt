@@ -11,7 +11,7 @@ use borrow.Author.Tests.{ltb-true, ltb-false}
 use Rattle.sets.specs.Sets.{has, meet, less, single}
 use Rattle.sets.proofs.Laws.{has-none, has-suc, has-and, has-or, has-less, ext}
 use Rattle.pack.specs.Image.{terminals, scanStates, classOf, move, acc, rej}
-use Rattle.shape.specs.declared.Verdict.the-variants.{Good}
+use Rattle.numbers.specs.declared.Verdict.the-variants.{Good}
 use Rattle.shape.specs.Shape.{shape}
 use Rattle.shape.proofs.Good.{good-laid, good-move, good-class, good-acc, good-rej}
 use Rattle.conditions.specs.Conditions.{matched}

@@ -14,7 +14,7 @@ use Rattle.sets.specs.Sets.{has, lacks, meet}
 use Rattle.sets.proofs.Laws.{has-lt, has-none, has-zero, has-suc, has-and, has-or, has-less, empty}
 use Rattle.pack.specs.Image.{terminals, states, scanStates, layout, act, actionOf, acc, rej, validSet, allButEnd, allButEndAndLayout}
 use Rattle.pack.proofs.Valid.{valid-cell}
-use Rattle.shape.specs.declared.Verdict.the-variants.{Good}
+use Rattle.numbers.specs.declared.Verdict.the-variants.{Good}
 use Rattle.rules.specs.Rules.{actRight}
 use Rattle.rules.proofs.Laws.{layout-column}
 use Rattle.shape.specs.Shape.{parserRules, actRule, shape}

@@ -13,9 +13,10 @@ use Rattle.numbers.specs.Codes.{notTheForm, textTooLong, wrongShape, longestTex
 use Rattle.numbers.specs.Front.{front, deliver, Delivers, bufferAfter}
 use Rattle.numbers.proofs.Laws.{answer, deliver-all}
 use Rattle.pack.specs.Laid.{Sized}
-use Rattle.shape.specs.declared.Verdict.{Verdict}
-use Rattle.shape.specs.declared.Verdict.the-variants.{Good, Wrong}
-use Rattle.shape.specs.Shape.{isWrong, each, sizeRule, shape}
+use Rattle.numbers.specs.declared.Verdict.{Verdict}
+use Rattle.numbers.specs.declared.Verdict.the-variants.{Good, Wrong}
+use Rattle.numbers.specs.Verdicts.{isWrong}
+use Rattle.shape.specs.Shape.{each, sizeRule, shape}
 use Rattle.shape.proofs.Laws.{is-good, is-wrong, sizes-sized}
 use Rattle.text.specs.Form.{packLine, sizes, tablesOf, tableAt, tableWords}
 use Rattle.text.specs.Reader.{Line, Lines, thenRead, expect, readRow, thenLines, asLine, readLines, readTables, limited, readHead, ended, readAll, judge, read}

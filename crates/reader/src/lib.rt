@@ -1,6 +1,6 @@
 // Pack text to image.
 use numbers::Answer;
-use shape::Verdict;
+use numbers::Verdict;
 ghost use mathlib.Core.Path.{_≡_};
 ghost use mathlib.Core.List.{[]};
 ghost use lib.ListN.{length};

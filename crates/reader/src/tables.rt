@@ -4,7 +4,7 @@ use crate::lines::as_line;
 use crate::lines::expect;
 use crate::lines::read_lines;
 use crate::lines::read_row;
-use shape::is_wrong;
+use numbers::is_wrong;
 use text::Row;
 ghost use mathlib.Core.Path.{_≡_};
 ghost use mathlib.Core.List.{List};

@@ -12,10 +12,11 @@ use lib.Seq.{drop-cons, drop-drop, take-all}
 use lib.Bits.{bitAnd}
 use borrow.Author.Tests.{eq-eqb, ne-eqb, lt-ltb, le-ltb}
 use Rattle.sets.specs.Sets.{isEmpty}
-use Rattle.shape.specs.declared.Verdict.{Verdict}
+use Rattle.numbers.specs.declared.Verdict.{Verdict}
 use Rattle.numbers.specs.Codes.{queryTooLong, wrongShape}
 use Rattle.pack.specs.Image.{classOf, move, acc, rej, poss, allButEnd}
-use Rattle.shape.specs.Shape.{isWrong, verdictPlace, shape}
+use Rattle.numbers.specs.Verdicts.{isWrong, verdictPlace}
+use Rattle.shape.specs.Shape.{shape}
 use Rattle.shape.proofs.Laws.{is-good, is-wrong}
 use Rattle.scan.specs.declared.Remembered.{Remembered}
 use Rattle.scan.specs.declared.Stop.{Stop}

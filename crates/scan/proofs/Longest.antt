@@ -13,7 +13,7 @@ use lib.Bits.{bitAnd, bitOr, and-zero-l, and-le-l, or-lt}
 use borrow.Author.Tests.{eq-eqb, eqb-true, eqb-false, ltb-true, ltb-false}
 use Rattle.sets.specs.Sets.{has, isEmpty}
 use Rattle.sets.proofs.Laws.{has-lt, has-none, has-and, has-or, empty}
-use Rattle.shape.specs.declared.Verdict.the-variants.{Good}
+use Rattle.numbers.specs.declared.Verdict.the-variants.{Good}
 use Rattle.pack.specs.Image.{terminals, scanStates, classOf, dom, move, acc, rej, poss}
 use Rattle.shape.specs.Shape.{shape}
 use Rattle.shape.proofs.Good.{good-laid, good-move, good-class, good-acc, good-rej, good-disjoint, good-start}

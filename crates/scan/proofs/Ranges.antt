@@ -9,7 +9,7 @@ use native.Mathlib.Omega.{arith}
 use lib.Dec.{leb, ltb}
 use lib.ListN.{length, getD, replicate, getD-replicate}
 use borrow.Author.Tests.{le-leb, lt-leb, leb-true, leb-false, ltb-true, ltb-false}
-use Rattle.shape.specs.declared.Verdict.the-variants.{Good}
+use Rattle.numbers.specs.declared.Verdict.the-variants.{Good}
 use Rattle.pack.specs.Image.{ranges, lo, hi, rangeClass, classIn}
 use Rattle.shape.specs.Shape.{shape}
 use Rattle.shape.proofs.Good.{good-range, good-above}

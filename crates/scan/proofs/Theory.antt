@@ -11,7 +11,7 @@ use lib.Bits.{bitAnd, and-le-l}
 use borrow.Author.Tests.{eqb-true, eqb-false}
 use Rattle.sets.specs.Sets.{has, isEmpty}
 use Rattle.sets.proofs.Laws.{has-lt, has-none, has-and, ext}
-use Rattle.shape.specs.declared.Verdict.the-variants.{Good}
+use Rattle.numbers.specs.declared.Verdict.the-variants.{Good}
 use Rattle.pack.specs.Image.{terminals, scanStates, classOf, move, acc, rej, poss}
 use Rattle.shape.specs.Shape.{shape}
 use Rattle.shape.proofs.Good.{good-laid, good-move, good-class, good-acc, good-rej, good-poss}

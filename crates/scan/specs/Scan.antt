@@ -5,8 +5,8 @@ use Prim.Native.Nat.{ℕ, zero, suc, _+_, _-_, min}
 use lib.Dec.{ltb}
 use lib.ListN.{length, drop}
 use Rattle.sets.specs.Sets.{meet, isEmpty}
-use Rattle.shape.specs.declared.Verdict.{Verdict}
-use Rattle.shape.specs.declared.Verdict.the-variants.{Good, Wrong}
+use Rattle.numbers.specs.declared.Verdict.{Verdict}
+use Rattle.numbers.specs.declared.Verdict.the-variants.{Good, Wrong}
 use Rattle.numbers.specs.Codes.{done, wrongShape, queryTooLong, allowanceUsedUp, longestText}
 use Rattle.pack.specs.Image.{classOf, move, acc, rej, poss, allButEnd}
 use Rattle.shape.specs.Shape.{shape}

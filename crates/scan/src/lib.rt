@@ -2,7 +2,7 @@
 ghost use mathlib.Core.Path.{_≡_};
 ghost use Prim.Native.Nat.{ℕ, _+_, _<_, _≤_, min};
 ghost use lib.ListN.{length};
-ghost use Rattle.shape.specs.declared.Verdict.the-variants.{Good};
+ghost use Rattle.numbers.specs.declared.Verdict.the-variants.{Good};
 ghost use Rattle.pack.specs.Image.{scanStates, move, classOf, allButEnd};
 ghost use Rattle.pack.specs.Laid.{Laid};
 ghost use Rattle.shape.specs.Shape.{shape};
@@ -157,8 +157,8 @@ pub fn scan(img: &[u16], text: &[u8], start: usize, set: u64, allowance: u32) ->
         return refusal(numbers::QUERY_TOO_LONG, 0);
     }
     let v = shape::shape(img);
-    if shape::is_wrong(v) {
-        return refusal(numbers::WRONG_SHAPE, shape::verdict_place(v));
+    if numbers::is_wrong(v) {
+        return refusal(numbers::WRONG_SHAPE, numbers::verdict_place(v));
     }
     let place = within(start, text.len());
     let row = classes::class_row(img);

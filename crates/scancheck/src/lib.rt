@@ -5,7 +5,7 @@ ghost use mathlib.Core.Path.{_≡_};
 ghost use Prim.Native.Nat.{_<_, _≤_};
 ghost use Rattle.pack.specs.Image.{terminals, scanStates};
 ghost use Rattle.pack.specs.Laid.{Laid};
-ghost use Rattle.shape.specs.declared.Verdict.the-variants.{Good};
+ghost use Rattle.numbers.specs.declared.Verdict.the-variants.{Good};
 ghost use Rattle.shape.specs.Shape.{shape};
 ghost use Rattle.conditions.specs.Tests.{same};
 ghost use Rattle.conditions.specs.Conditions.{outranked, k1, within, k2, isGroup, settled};

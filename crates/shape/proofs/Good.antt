@@ -7,7 +7,7 @@ use native.Mathlib.Omega.{arith}
 use lib.Dec.{eqb, leb}
 use borrow.Author.Tests.{ne-eqb, leb-true, ltb-true, eqb-true}
 use Rattle.sets.specs.Sets.{has, lacks, isEmpty, meet}
-use Rattle.shape.specs.declared.Verdict.the-variants.{Good}
+use Rattle.numbers.specs.declared.Verdict.the-variants.{Good}
 use Rattle.pack.specs.Image.{terminals, scanStates, classes, ranges, largestImage, greatestByte, layout, move, lo, hi, rangeClass, acc, rej, poss, classIn, classOf, needed}
 use Rattle.shape.specs.Shape.{each, headRules, parserRules, scannerRules, layoutRule, cellRule, moveRules, rangeRule, scanRule, shape}
 use Rattle.rules.specs.Rules.{fits, abovePrevious, emptyAtStart}

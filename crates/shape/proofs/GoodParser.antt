@@ -10,7 +10,7 @@ use Rattle.sets.specs.Sets.{has, member, lacks}
 use Rattle.pack.specs.declared.Action.{Action}
 use Rattle.pack.specs.declared.Action.the-variants.{Error, Accept, Shift, Reduce}
 use Rattle.pack.specs.Image.{mostSymbols, terminals, nonterminals, productions, states, groups, layout, lhs, len, act, actionOf, goto, groupSet, chosen}
-use Rattle.shape.specs.declared.Verdict.the-variants.{Good}
+use Rattle.numbers.specs.declared.Verdict.the-variants.{Good}
 use Rattle.shape.specs.Shape.{each, parserRules, scannerRules, prodRule, actRule, cellRule, gotoRules, groupRule, shape}
 use Rattle.rules.specs.Rules.{actRight}
 use Rattle.shape.proofs.Laws.{both, rule-good, and-then-good, each-at}

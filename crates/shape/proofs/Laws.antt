@@ -8,10 +8,11 @@ use native.Mathlib.Numerals.{add-one}
 use native.Mathlib.Omega.{arith}
 use lib.ListN.{length}
 use borrow.Author.Tests.{eq-eqb, ne-eqb, le-leb, lt-leb, eqb-true, leb-true, ltb-true}
-use Rattle.shape.specs.declared.Verdict.{Verdict}
-use Rattle.shape.specs.declared.Verdict.the-variants.{Good, Wrong}
+use Rattle.numbers.specs.declared.Verdict.{Verdict}
+use Rattle.numbers.specs.declared.Verdict.the-variants.{Good, Wrong}
 use Rattle.pack.specs.Image.{word, sizeWords, terminals, productions, ranges, groups, states, nonterminals, scanStates, classes, gotoStart, moveStart, leastSize, greatestSize, needed}
-use Rattle.shape.specs.Shape.{isWrong, rule, andThen, each, sizeRule, lengthRule, headRules, layoutRule, domRule, prodRule, actRule, cellRule, gotoRules, moveRules, rangeRule, scanRule, parserRules, scannerRules, shape}
+use Rattle.numbers.specs.Verdicts.{isWrong}
+use Rattle.shape.specs.Shape.{rule, andThen, each, sizeRule, lengthRule, headRules, layoutRule, domRule, prodRule, actRule, cellRule, gotoRules, moveRules, rangeRule, scanRule, parserRules, scannerRules, shape}
 use Rattle.shape.specs.declared.tables.Ruled.the-variants.{Dom, Prod, Act, Class, Scan, Group}
 use Rattle.shape.specs.Rows.{rowRule}
 use Rattle.pack.specs.Laid.{Sized, Laid}

@@ -13,7 +13,7 @@ use lib.Seq.{length-take-le, getD-take, getD-drop}
 use borrow.Author.Tests.{ne-eqb, le-leb, lt-ltb, eqb-true, eqb-false}
 use Rattle.sets.specs.Sets.{member}
 use Rattle.sets.proofs.Laws.{out-lacks}
-use Rattle.shape.specs.declared.Verdict.the-variants.{Good}
+use Rattle.numbers.specs.declared.Verdict.the-variants.{Good}
 use Rattle.shape.specs.declared.tables.Ruled.the-variants.{Act}
 use Rattle.pack.specs.Image.{word, terminals, productions, states, actStart, layout, act, actionOf}
 use Rattle.pack.specs.Laid.{Laid}

@@ -2,7 +2,7 @@
 -- not use this file.
 use mathlib.Core.List.{List}
 use Prim.Native.Nat.{ℕ}
-use Rattle.shape.specs.declared.Verdict.{Verdict}
+use Rattle.numbers.specs.declared.Verdict.{Verdict}
 use Rattle.shape.specs.declared.tables.Ruled.{Ruled}
 use Rattle.shape.specs.declared.tables.Ruled.the-variants.{Dom, Prod, Act, Class, Scan, Group}
 use Rattle.pack.specs.Image.{terminals, productions, states, scanStates, ranges, groups}

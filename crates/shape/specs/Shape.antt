@@ -5,25 +5,10 @@ use mathlib.Core.List.{List}
 use Prim.Native.Nat.{ℕ, zero, suc, _+_, min}
 use lib.Dec.{eqb, leb}
 use lib.ListN.{length}
-use Rattle.numbers.specs.Codes.{done, wrongShape}
 use Rattle.pack.specs.Image.{word, sizeWords, mostSymbols, terminals, nonterminals, productions, states, scanStates, classes, ranges, groups, layoutAt, domAt, prodAt, lenAt, symbolAt, actAt, gotoAt, rangeAt, hiAt, rangeClassAt, moveAt, scanAt, rejAt, possAt, groupAt, chosenAt, needed, act, actionOf}
 use Rattle.rules.specs.Rules.{sizeRight, layoutRight, domRight, lhsRight, lenRight, symbolRight, actRight, abovePrevious, endsRight, classRight, accRight, rejRight, possRight, groupRight, chosenRight}
-use Rattle.shape.specs.declared.Verdict.{Verdict}
-use Rattle.shape.specs.declared.Verdict.the-variants.{Good, Wrong}
-
--- The numbers that are given back for a verdict: the code, and the place of the wrong word.
-unfoldable pub verdictCode : Verdict → ℕ
-verdictCode Good = done
-verdictCode (Wrong place) = wrongShape
-
-unfoldable pub verdictPlace : Verdict → ℕ
-verdictPlace Good = 0
-verdictPlace (Wrong place) = place
-
--- The verdict is that some word is wrong.
-unfoldable pub isWrong : Verdict → Bool
-isWrong Good = false
-isWrong (Wrong place) = true
+use Rattle.numbers.specs.declared.Verdict.{Verdict}
+use Rattle.numbers.specs.declared.Verdict.the-variants.{Good, Wrong}
 
 -- One rule: it holds, or this is the place of the wrong word.
 unfoldable pub rule : Bool → ℕ → Verdict

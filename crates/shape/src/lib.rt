@@ -2,48 +2,14 @@
 ghost use mathlib.Core.Path.{_≡_};
 ghost use Rattle.pack.specs.Image.{sizeWords};
 ghost use Rattle.pack.specs.Laid.{Laid};
-ghost use Rattle.shape.specs.Shape.{each, sizeRule, isWrong, verdictCode, verdictPlace, parserRules, scannerRules, shape};
+ghost use Rattle.shape.specs.Shape.{each, sizeRule, parserRules, scannerRules, shape};
+use numbers::Verdict;
+use numbers::is_wrong;
 use pack::image;
 use tables::Ruled;
 
 mod quick; // quick.rt: passes that only say whether all is well
 mod tables; // tables.rt: the verdict on an entry, a row or a table
-
-// What the shape test says: every word is right, or this is the place of the first wrong one.
-pub enum Verdict {
-    Good,
-    Wrong(usize),
-}
-
-// Whether some word is wrong.
-pub fn is_wrong(v: Verdict) -> bool
-    ensures { λ r. ⌜ r ≡ isWrong v ⌝ }
-{
-    match v {
-        Verdict::Good => false,
-        Verdict::Wrong(_) => true,
-    }
-}
-
-// The code of a verdict.
-pub fn verdict_code(v: Verdict) -> u8
-    ensures { λ r. ⌜ r ≡ verdictCode v ⌝ }
-{
-    match v {
-        Verdict::Good => numbers::DONE,
-        Verdict::Wrong(_) => numbers::WRONG_SHAPE,
-    }
-}
-
-// The place of the first wrong word, and 0 where there is none.
-pub fn verdict_place(v: Verdict) -> usize
-    ensures { λ r. ⌜ r ≡ verdictPlace v ⌝ }
-{
-    match v {
-        Verdict::Good => 0,
-        Verdict::Wrong(place) => place,
-    }
-}
 
 // The tables of the parser: layout, dom, prod, act and goto.
 fn parser_rules(img: &[u16]) -> Verdict

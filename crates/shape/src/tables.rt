@@ -1,8 +1,8 @@
 // The tables of the shape: each function gives the verdict on an entry, a row or a table. Inner functions: they ask for an image that is
 // laid out as its sizes say, except the first three, which find that out.
-use super::Verdict;
-use super::is_wrong;
 use super::quick;
+use numbers::Verdict;
+use numbers::is_wrong;
 use pack::image;
 ghost use mathlib.Core.Path.{_≡_};
 ghost use Prim.Native.Nat.{_+_, _<_, _≤_};

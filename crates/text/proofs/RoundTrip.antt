@@ -9,8 +9,8 @@ use lib.Dec.{ltb}
 use lib.ListN.{length, take}
 use lib.Seq.{take-length, getD-take, length-take-le}
 use borrow.Author.Tests.{lt-ltb, le-ltb, ltb-false, leb-true, eqb-true}
-use Rattle.shape.specs.declared.Verdict.{Verdict}
-use Rattle.shape.specs.declared.Verdict.the-variants.{Good, Wrong}
+use Rattle.numbers.specs.declared.Verdict.{Verdict}
+use Rattle.numbers.specs.declared.Verdict.the-variants.{Good, Wrong}
 use Rattle.pack.specs.Image.{word, productions, prodStart, layoutAt, len, symbol}
 use Rattle.rules.specs.Rules.{symbolRight}
 use Rattle.shape.specs.Shape.{each, sizeRule, symbolRule, prodRule, headRules, parserRules, shape}

@@ -22,8 +22,8 @@ use Rattle.text.specs.Reader.{Line, Lines, thenRead, expect, fieldThen, 
 use Rattle.text.specs.Reader.Line.{wrong, took}
 use Rattle.text.specs.Reader.Lines.{wrongFrom, all}
 use Rattle.text.specs.Writer.{fieldsText, rowText, linesText, tablesText, textOf}
-use Rattle.shape.specs.declared.Verdict.{Verdict}
-use Rattle.shape.specs.declared.Verdict.the-variants.{Good, Wrong}
+use Rattle.numbers.specs.declared.Verdict.{Verdict}
+use Rattle.numbers.specs.declared.Verdict.the-variants.{Good, Wrong}
 use Rattle.pack.specs.Image.{layoutAt}
 use Rattle.shape.specs.Shape.{each, sizeRule}
 use Rattle.text.proofs.Decimal.{number-text}

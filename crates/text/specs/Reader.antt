@@ -6,7 +6,7 @@ use Prim.Native.Nat.{ℕ, zero, suc, _-_}
 use lib.Dec.{eqb, leb, ltb}
 use lib.ListN.{length, drop}
 use Rattle.pack.specs.Image.{mostSymbols}
-use Rattle.shape.specs.declared.Verdict.the-variants.{Good, Wrong}
+use Rattle.numbers.specs.declared.Verdict.the-variants.{Good, Wrong}
 use Rattle.numbers.specs.Codes.{notTheForm, textTooLong, wrongShape, longestText}
 use Rattle.shape.specs.Shape.{shape, each, sizeRule}
 use Rattle.text.specs.declared.Kind.{Kind}

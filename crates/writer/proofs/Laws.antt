@@ -13,7 +13,7 @@ use Rattle.numbers.specs.Codes.{done, textTooLong, roomTooSmall, wrongShape, lo
 use Rattle.numbers.specs.Front.{Delivers, bufferAfter}
 use Rattle.numbers.proofs.Laws.{answer, deliver-small, deliver-done}
 use Rattle.pack.specs.Image.{layoutAt}
-use Rattle.shape.specs.declared.Verdict.the-variants.{Good, Wrong}
+use Rattle.numbers.specs.declared.Verdict.the-variants.{Good, Wrong}
 use Rattle.shape.specs.Shape.{shape}
 use Rattle.text.specs.declared.Kind.{Kind}
 use Rattle.text.specs.declared.Kind.the-variants.{Number, Set}

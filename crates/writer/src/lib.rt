@@ -1,6 +1,6 @@
 // Image to pack text.
 use numbers::Answer;
-use shape::Verdict;
+use numbers::Verdict;
 ghost use mathlib.Core.Path.{_≡_};
 ghost use lib.ListN.{length};
 ghost use Rattle.numbers.specs.Front.{Delivers, bufferAfter};

@@ -1,8 +1,8 @@
 use borrow.Author.Needs.{needs}
 use mathlib.Core.Path.{sym, ap}
-use Rattle.shape.specs.Shape.{verdictPlace}
-use Rattle.shape.proofs.verdict_place.Statement.{statement}
-use Rattle.shape.proofs.verdict_place.Tie as tie
+use Rattle.numbers.specs.Verdicts.{verdictPlace}
+use Rattle.numbers.proofs.verdict_place.Statement.{statement}
+use Rattle.numbers.proofs.verdict_place.Tie as tie
 
 returns : tie.Need-returns
 unfolding verdictPlace

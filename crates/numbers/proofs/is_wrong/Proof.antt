@@ -1,8 +1,8 @@
 use borrow.Author.Needs.{needs}
 use mathlib.Core.Path.{sym, ap}
-use Rattle.shape.specs.Shape.{isWrong}
-use Rattle.shape.proofs.is_wrong.Statement.{statement}
-use Rattle.shape.proofs.is_wrong.Tie as tie
+use Rattle.numbers.specs.Verdicts.{isWrong}
+use Rattle.numbers.proofs.is_wrong.Statement.{statement}
+use Rattle.numbers.proofs.is_wrong.Tie as tie
 
 returns : tie.Need-returns
 unfolding isWrong

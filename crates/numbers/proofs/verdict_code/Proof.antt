@@ -1,8 +1,8 @@
 use borrow.Author.Needs.{needs}
 use mathlib.Core.Path.{sym, ap}
-use Rattle.shape.specs.Shape.{verdictCode}
-use Rattle.shape.proofs.verdict_code.Statement.{statement}
-use Rattle.shape.proofs.verdict_code.Tie as tie
+use Rattle.numbers.specs.Verdicts.{verdictCode}
+use Rattle.numbers.proofs.verdict_code.Statement.{statement}
+use Rattle.numbers.proofs.verdict_code.Tie as tie
 
 returns : tie.Need-returns
 unfolding verdictCode
