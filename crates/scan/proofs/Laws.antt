@@ -22,11 +22,6 @@ use Rattle.scan.specs.declared.Remembered.{Remembered}
 use Rattle.scan.specs.declared.Stop.{Stop}
 use Rattle.scan.specs.Scan.{nothing, remember, stopped, usedUp, moveOn, onward, scanFrom, scan, stopCode, refused, scanAlone}
 
--- A set that is not empty is remembered.
-remembered : (a r n : ℕ) (kept : Remembered) → (a ≡ 0 → ⊥) → remember a r n kept ≡ record { set = a; length = n }
-unfolding remember isEmpty
-remembered a r n kept h = simp (remember, isEmpty, ne-eqb _ _ h)
-
 -- A stop, whatever is left of the allowance.
 pub stops : (img : List ℕ) (v left : ℕ) (bytes : List ℕ) (q n : ℕ) (kept : Remembered) → onward img v q bytes ≡ 0 → scanFrom img v left bytes q n kept ≡ stopped kept n
 unfolding scanFrom
@@ -73,16 +68,6 @@ module _ (img : List ℕ) (v allowance : ℕ) (bytes : List ℕ) (q n : ℕ) (ke
         moves-on k ea er em =
             let z : allowance - n ≡ suc (allowance - (n + 1)) = omega arith in
             rw z (simp (scanFrom, moving ∙ one-more, ← ea, ← er, ← em, drop-drop 1 n bytes))
-
--- A match from which nothing valid is possible ends the scan.
-pub ends-here : (img : List ℕ) (v allowance : ℕ) (bytes : List ℕ) (q n : ℕ) (kept : Remembered) {p : ℕ} → p ≡ poss img q → (bitAnd p v ≡ 0 → ⊥) → n < length bytes
-    → {to : ℕ} → to ≡ move img q (classOf img (getD bytes n 0)) → (to ≡ 0 → ⊥) → n < allowance → {a p′ : ℕ} → a ≡ acc img (to - 1) → (bitAnd a v ≡ 0 → ⊥)
-    → p′ ≡ poss img (to - 1) → bitAnd p′ v ≡ 0
-    → scanFrom img v (allowance - n) (drop n bytes) q n kept ≡ record { spent = false; set = bitAnd a v; length = n + 1; moves = n + 1 }
-ends-here img v allowance bytes q n kept e s h {to} g t k {a} ea na ep np =
-    moves-on img v allowance bytes q n kept e s h g t k ea refl refl
-    ∙ (nothing-possible img v allowance bytes (to - 1) (n + 1) _ ep np
-    ∙ ap (λ (w : Remembered). stopped w (n + 1)) (remembered (bitAnd a v) (bitAnd (rej img (to - 1)) v) (n + 1) kept na))
 
 -- "the rest of the text from the place on", as the code takes it.
 pub rest-of : (text : List ℕ) (place : ℕ) → take (length text - place) (drop place text) ≡ drop place text

@@ -61,8 +61,7 @@ fn move_on(img: &[u16], row: &[u8; pack::image::BYTE_COUNT], q: usize, b: u8) ->
     image::move_of(img, q, classes::class_of(img, row, b))
 }
 
-// One scan over the rest of the text. Inner: its callers have tested the shape and filled the row of classes. A match from which
-// nothing valid is possible is given back at once: its length then does not wait for what was remembered before it.
+// One scan over the rest of the text. Inner: its callers have tested the shape and filled the row of classes.
 pub fn one_scan(
     img: &[u16],
     row: &[u8; pack::image::BYTE_COUNT],
@@ -112,18 +111,9 @@ pub fn one_scan(
         }
         q = to - 1;
         n += 1;
-        let accepted = image::acc(img, q) & v;
-        if accepted != 0 {
-            if image::poss(img, q) & v == 0 {
-                return Stop {
-                    spent: false,
-                    set: accepted,
-                    length: n,
-                    moves: n,
-                };
-            }
-        }
-        kept = remember(accepted, image::rej(img, q) & v, n, kept);
+        let acc = image::acc(img, q);
+        let rej = image::rej(img, q);
+        kept = remember(acc & v, rej & v, n, kept);
     }
 }
 

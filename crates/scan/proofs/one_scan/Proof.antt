@@ -5,7 +5,7 @@ use native.Mathlib.Omega.{arith}
 use lib.ListN.{length, drop}
 use Rattle.pack.specs.Image.{scanStates}
 use Rattle.scan.specs.Scan.{scan, scanFrom}
-use Rattle.scan.proofs.Laws.{begins, nothing-possible, no-byte, no-move, used-up, moves-on, ends-here}
+use Rattle.scan.proofs.Laws.{begins, nothing-possible, no-byte, no-move, used-up, moves-on}
 use Rattle.scan.proofs.one_scan.Statement.{statement}
 use Rattle.scan.proofs.one_scan.Tie as tie
 
@@ -45,22 +45,9 @@ returns-4 c =
     sym (l .loop .inv .2
     ∙ used-up _ _ _ _ _ _ _ (i .before .poss .ensures) (i .if1 .left) (b .if2 .left) (m .move-on .ensures .0) (c .before .if3 .left) (c .if4 .taken))
 
-returns-5 : tie.Need-returns-5 Inv-loop μ-loop
-returns-5 c =
-    let j = c .before .before in
-    let a = j .before in
-    let e = a .before in
-    let m = e .before .before in
-    let b = m .before .before in
-    let i = b .before in
-    let l = i .before .before in
-    sym (l .loop .inv .2
-    ∙ ends-here _ _ _ _ _ _ _ (i .before .poss .ensures) (i .if1 .left) (b .if2 .left) (m .move-on .ensures .0) (e .before .if3 .left) (e .if4 .left)
-    (a .acc .ensures) (j .if5 .taken) (c .before .poss2 .ensures) (c .if6 .taken))
-
 loop-again : tie.Need-loop-again Inv-loop μ-loop
 loop-again c =
-    let a = c .before .before .before in
+    let a = c .before .before in
     let e = a .before in
     let m = e .before .before in
     let b = m .before .before in
@@ -76,4 +63,4 @@ loop-again c =
 pub one-scan-spec : {M : Type 1} → statement M
 one-scan-spec =
     tie.close
-    (tie.spec Inv-loop μ-loop loop-holds (λ c κs. search needs) returns returns-2 (λ c. search needs) (λ c κs. search needs) returns-3 returns-4 (λ c. search needs) (λ c. search needs) (λ c κs. search needs) (λ c κs. search needs) returns-5 (λ c κs. search needs) (λ c κs. search needs) (λ c. search needs) loop-again)
+    (tie.spec Inv-loop μ-loop loop-holds (λ c κs. search needs) returns returns-2 (λ c. search needs) (λ c κs. search needs) returns-3 returns-4 (λ c. search needs) (λ c. search needs) (λ c κs. search needs) (λ c κs. search needs) (λ c κs. search needs) (λ c. search needs) loop-again)
