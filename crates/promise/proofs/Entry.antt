@@ -17,7 +17,7 @@ use Rattle.conditions.proofs.Answers.{checked-passes}
 use Rattle.parse.specs.declared.Parsed.{Parsed}
 use Rattle.parse.specs.Parse.{Ending, recordWords, parse, treeAfter}
 use Rattle.parse.proofs.Bounded.{parse-bounded, refused-long}
-use Rattle.promise.specs.Promised.{Accepted, Refused}
+use Rattle.promise.specs.Promised.{Accepted, Refused, Given, Halts}
 use Rattle.promise.proofs.Promised.{promised-checked}
 
 -- A pack that was checked, and a parse by it: its numbers, and the lent tree before and after.
@@ -28,6 +28,9 @@ module _ (img text tree tree′ : List ℕ) (allowance : ℕ) (c : Checked) (r :
 
   code-is : r .code ≡ parse img text tree allowance .parsed .code
   code-is = ap (λ (p : Parsed). p .code) gives
+
+  pub codes : Given (r .code)
+  codes = rw code-is (promised-checked img passing text tree allowance .codes)
 
   pub never-stuck : r .code ≡ stuck → ⊥
   never-stuck e = promised-checked img passing text tree allowance .never-stuck (sym code-is ∙ e)
@@ -57,3 +60,15 @@ module _ (img text tree tree′ : List ℕ) (allowance : ℕ) (c : Checked) (r :
   -- And where the parse was refused, they are the trees so far.
   pub refused : noTerminal ≤ r .code → Refused img text (record { parsed = r; words = take (r .records * recordWords) tree′ })
   refused l = rw (front-is (λ z. omega arith), gives) (promised-checked img passing text tree allowance .refused (rw code-is at l))
+
+  -- A parse that gets no further than a place.
+  pub halted : {words : List ℕ} {place : ℕ} → Halts words place (parse img text tree allowance)
+      → Halts words place (record { parsed = r; words = take (r .records * recordWords) tree′ })
+  halted h =
+      record {
+        not-accepted = λ z. h .not-accepted (sym code-is ∙ z);
+        front = λ l. rw (front-is (λ z. omega arith)) (h .front (rw code-is at l));
+        no-further = λ l. rw gives (h .no-further (rw code-is at l));
+        there-none = λ z. rw (front-is (λ y. omega arith), gives) (h .there-none (sym code-is ∙ z));
+        there-other = λ z. rw (front-is (λ y. omega arith), gives) (h .there-other (sym code-is ∙ z));
+      }

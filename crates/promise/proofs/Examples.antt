@@ -3,22 +3,24 @@
 -- Assumes nothing.
 use mathlib.Core.Path.{_≡_, refl}
 use mathlib.Core.List.{List, [], _∷_}
-use Prim.Native.Nat.{ℕ, zero, suc}
+use Prim.Native.Nat.{ℕ, zero, suc, _≤_}
 use native.Mathlib.Omega.{arith}
-use Rattle.sets.specs.Sets.{has}
+use Rattle.sets.specs.Sets.{has, meet}
 use Rattle.sets.proofs.Laws.{has-none, has-suc}
 use Rattle.text.specs.Bytes.{bytes}
-use Rattle.pack.specs.Image.{setAt, dom, lhs, len, symbol, symbolsFrom, act, goto, move, acc, rej, lo, hi, rangeClass, classIn, validFrom, startSymbol}
-use Rattle.scan.specs.Matching.{ledFrom, Matches}
+use Rattle.pack.specs.Image.{setAt, layout, dom, lhs, len, symbol, symbolsFrom, act, goto, move, acc, rej, lo, hi, rangeClass, classIn, validFrom, startSymbol}
+use Rattle.scan.specs.Matching.{ledFrom, Matches, Last}
 use Rattle.parse.specs.Leaf.{part}
 use Rattle.parse.specs.Parse.{parse}
 use Rattle.promise.specs.SmallPack.{small}
 use Rattle.promise.specs.Derivation.{Trees, none, leaf, node}
-use Rattle.promise.specs.Cover.{RightLeaf}
+use Rattle.promise.specs.Cover.{Settled, RightLeaf}
 use Rattle.promise.specs.Refusal.{Outdone}
-use Rattle.promise.specs.Promised.{Promised}
+use Rattle.promise.specs.Promised.{Promised, Halts}
+use Rattle.promise.specs.Way.{begin}
 use Rattle.promise.proofs.Passing.{small-passes}
 use Rattle.promise.proofs.Promised.{promised}
+use Rattle.promise.proofs.Letter.{halts}
 
 pub small-promised : (text tree : List ℕ) (allowance : ℕ) → Promised small text (parse small text tree allowance)
 small-promised = promised small small-passes
@@ -28,7 +30,7 @@ unfolding small symbolsFrom lhs len symbol act goto
 tax-by-day =
     let children : Trees small 0 (2 ∷ 1 ∷ 2 ∷ []) (2 ∷ 0 ∷ 3 ∷ 0 ∷ 1 ∷ 4 ∷ 2 ∷ 1 ∷ 2 ∷ 7 ∷ 3 ∷ 2 ∷ []) 3 =
     leaf {t = 2} {v = 1} 0 3 (omega arith) refl (leaf {t = 1} {v = 2} 4 2 (omega arith) refl (leaf {t = 2} 7 3 (omega arith) refl none)) in
-    node {p = 1} (omega arith) children refl none
+    node {p = 1} (omega arith) children (record { column = 0; within = omega arith; cell = refl }) refl none
 
 -- The letter's `grou`: after `b` alone, reading on, the name is rejected at `by`.
 pub no-b-in-by : RightLeaf small (bytes "by") 2 0 1 0 → ⊥
@@ -54,3 +56,17 @@ by-outdone =
     only (suc zero) v = absurd (omega arith)
     only (suc (suc zero)) v = keyword
     only (suc (suc (suc t))) v = absurd (omega (arith, v, has-suc 4 (suc (suc t)), has-suc 2 (suc t), has-suc 1 t, has-none t))
+
+-- So a parse of `by` gets no further than its start, whatever the room and the allowance.
+by-settled : Settled small (bytes "by") 0
+unfolding small setAt layout move lo hi rangeClass classIn acc rej ledFrom
+by-settled = record { only-rejects = λ n q l. go n q l }
+  where
+    go : (n q : ℕ) → Last small (bytes "by") (layout small) n q → meet (acc small q) (layout small) ≡ 0
+    go zero q l = let y : 1 ≡ suc q = l .leads .way in let z : q ≡ 0 = omega arith in rw z refl
+    go (suc zero) q l = let y : 2 ≡ suc q = l .leads .way in let z : q ≡ 1 = omega arith in rw z refl
+    go (suc (suc zero)) q l = let y : 3 ≡ suc q = l .leads .way in let z : q ≡ 2 = omega arith in rw z refl
+    go (suc (suc (suc n))) q l = let w : suc (suc (suc n)) ≤ 2 = l .within in absurd (omega arith)
+
+pub by-halts : (tree : List ℕ) (allowance : ℕ) → Halts [] 0 (parse small (bytes "by") tree allowance)
+by-halts tree allowance = halts small small-passes (bytes "by") begin by-settled by-outdone (small-promised (bytes "by") tree allowance)

@@ -24,8 +24,8 @@ use Rattle.scan.specs.Matching.{Accepts, Last}
 use Rattle.scan.proofs.Longest.{match-is-last, no-match-rejects, accepted-alone}
 use Rattle.look.specs.Look.{tokenSet}
 use Rattle.parse.specs.Leaf.{part}
-use Rattle.promise.specs.Cover.{Chosen, alone, grouped, RightLeaf, Blank}
-use Rattle.promise.specs.Refusal.{NoMatch, Unexpected, instead}
+use Rattle.promise.specs.Cover.{Chosen, alone, grouped, NoMatch, Settled, RightLeaf, Blank}
+use Rattle.promise.specs.Refusal.{Unexpected, instead}
 use Rattle.promise.proofs.Matching.{same-state, led, same-accepted, with-end, without-end}
 use Rattle.promise.proofs.Others.{not-valid}
 
@@ -162,10 +162,10 @@ module _ (img : List ℕ) (passes : Passes img) where
       pub name : terminalOf img (stop .set) ≡ suc terminal
       pub right : RightLeaf img text terminal place (stop .length) s
 
-    pub taken : (s : ℕ) → s < states img → scan img (tokenSet img s) allowance (drop place text) .spent ≡ false
+    pub taken : (s : ℕ) → s < states img → Settled img text place → scan img (tokenSet img s) allowance (drop place text) .spent ≡ false
         → (scan img (tokenSet img s) allowance (drop place text) .set ≡ 0 → ⊥)
         → Taken s (scan img (tokenSet img s) allowance (drop place text))
-    taken s ls e ne = answer (named s q ls lq (λ z. ne (same ∙ z)))
+    taken s ls settled e ne = answer (named s q ls lq (λ z. ne (same ∙ z)))
       where
         m : Lowest text allowance place (tokenSet img s) e
         m = matches text allowance place (tokenSet img s) e ne
@@ -188,6 +188,8 @@ module _ (img : List ℕ) (passes : Passes img) where
               terminal = t;
               name = rw same (n .name);
               right = record {
+                is-state = ls;
+                after-layout = settled;
                 q = q;
                 last = with-end img (passes .good) (m .last);
                 valid = v;
@@ -210,11 +212,11 @@ module _ (img : List ℕ) (passes : Passes img) where
         }
 
     -- A match of the second scan, where the first had none.
-    pub other : (s : ℕ) → s < states img → place < length text → NoMatch img (drop place text) (validSet img s)
+    pub other : (s : ℕ) → s < states img → place < length text → Settled img text place → NoMatch img (drop place text) (validSet img s)
         → (e : scan img (allButEndAndLayout img) allowance (drop place text) .spent ≡ false)
         → (scan img (allButEndAndLayout img) allowance (drop place text) .set ≡ 0 → ⊥)
         → Unexpected img text s place (scan img (allButEndAndLayout img) allowance (drop place text) .length) (lowest (scan img (allButEndAndLayout img) allowance (drop place text) .set))
-    other s ls l none e ne =
+    other s ls l settled none e ne =
         let m = matches text allowance place (allButEndAndLayout img) e ne in
         let a = rw (same-state (m .accepted .leads) (m .last .leads)) at (m .accepted .here) in
-        instead _ _ (m .q) l none (m .last) (not-valid img (passes .good) s ls (m .last) _ none a) (m .inside) (m .accepted) (m .least)
+        instead _ _ (m .q) l settled none (m .last) (not-valid img (passes .good) s ls (m .last) _ none a) (m .inside) (m .accepted) (m .least)

@@ -1,36 +1,28 @@
 -- The letter's case, for all packs that pass: `group` is never read as the names `grou` and `p`. A leaf does not end before a place where,
 -- reading on, a terminal valid in its state is accepted or rejected; so where the longest name is outranked by a keyword, allowed or not, no
 -- leaf begins, and the parse is refused there. Assumes nothing.
-use mathlib.Core.Path.{_≡_, refl, ap}
+use mathlib.Core.Path.{_≡_, refl, sym, ap, _∙_}
 use mathlib.Core.Bool.{Bool, true, false}
 use mathlib.Core.Logic.{_⊎_, inl, inr}
-use mathlib.Core.List.{List}
-use Prim.Native.Nat.{ℕ, zero, suc, _*_, _<_, _≤_}
+use mathlib.Core.List.{List, [], _∷_, append-nil}
+use Prim.Native.Nat.{ℕ, _*_, _<_, _≤_}
 use native.Mathlib.Omega.{arith}
 use lib.Dec.{ltb}
-use lib.ListN.{length, drop, length-drop}
-use lib.Bits.{and-zero-l}
+use lib.ListN.{length, drop}
 use borrow.Author.Tests.{ltb-true, ltb-false}
 use Rattle.sets.specs.Sets.{has}
 use Rattle.sets.proofs.Laws.{has-lt, has-none, has-and, has-or}
-use Rattle.numbers.specs.Codes.{noTerminal, unexpected, allowanceUsedUp}
-use Rattle.pack.specs.Image.{states, dom, acc, rej, validSet, firstNonterminal}
-use Rattle.numbers.specs.declared.Verdict.the-variants.{Good}
-use Rattle.shape.specs.Shape.{shape}
-use Rattle.shape.proofs.Good.{good-start}
+use Rattle.pack.specs.Image.{acc, rej, validSet, dom, firstNonterminal}
 use Rattle.conditions.specs.Conditions.{Passes, matched}
-use Rattle.scan.specs.Matching.{ledFrom, Matches, Last}
-use Rattle.look.specs.declared.Spot.{Spot}
-use Rattle.look.specs.declared.Looked.{Looked}
-use Rattle.look.specs.Look.{look}
+use Rattle.scan.specs.Matching.{Matches}
 use Rattle.parse.specs.Leaf.{part}
-use Rattle.parse.specs.Parse.{recordWords}
-use Rattle.promise.specs.Cover.{RightLeaf, Covers}
+use Rattle.parse.specs.Parse.{Ending, recordWords}
+use Rattle.promise.specs.Cover.{Settled, RightLeaf, Covers}
 use Rattle.promise.specs.Refusal.{Outdone}
-use Rattle.promise.specs.RightLook.{Sees}
-use Rattle.promise.specs.RightLook as Sight
+use Rattle.promise.specs.Promised.{Accepted, Refused, Promised, Halts}
+use Rattle.promise.specs.Way.{word, end-of-text, Reached, reached, Acts, skips, shifts, reduces, Way}
 use Rattle.promise.proofs.Matching.{one-last}
-use Rattle.promise.proofs.Looks.{right-look}
+use Rattle.promise.proofs.Ways.{Onward, Stops, Further, further, no-blank, no-bytes, along, one-end, one-way, accepts-stops, none-stops, other-stops}
 use Rattle.promise.proofs.Records.{wordOf, every-leaf}
 
 -- A leaf ends at no earlier place than one where a terminal valid in its state matches.
@@ -62,30 +54,61 @@ no-leaf-there {img} {text} {s} {start} o terminal size r = at-last (o .size) (on
         → ((t : ℕ) → has (validSet img s) t ≡ 1 → Matches img (part text start n) t → (u : ℕ) × (has (dom img t) u ≡ 1) × Matches img (part text start n) u) → ⊥
     at-last n z by = let b = (rw (← z) at by) terminal (r .valid) matches in r .not-outranked (b .0) (b .1) (b .2)
 
--- A last place is past the first byte, since scan state 0 accepts and rejects nothing.
-some-bytes : {img : List ℕ} → shape img ≡ Good → {bytes : List ℕ} {v n q : ℕ} → Last img bytes v n q → 1 ≤ n
-unfolding ledFrom
-some-bytes {img} good {v = v} {n = zero} {q = q} l =
-    let y : suc 0 ≡ suc q = l .leads .way in
-    let z : 0 ≡ q = omega arith in
-    let b = good-start img good in
-    absurd (l .here (rw (← z, b .0, b .1) (and-zero-l v)))
-some-bytes good {n = suc n} l = omega arith
-
--- The parse is refused there, with code 7 or 8, or with 13 where the allowance does not suffice to see it: its look gives no token.
-module _ (img : List ℕ) (passes : Passes img) (text : List ℕ) (allowance s : ℕ) (at : Spot) where
-  pub refused-there : s < states img → Outdone img text s (look img text allowance s at .at .place)
-      → (look img text allowance s at .code ≡ noTerminal) ⊎ ((look img text allowance s at .code ≡ unexpected) ⊎ (look img text allowance s at .code ≡ allowanceUsedUp))
-  refused-there ls = go (look img text allowance s at) (right-look img passes text allowance .sees s at ls tt)
+-- So the tables have no step there, and a parse gets no further, whatever its room and allowance: where these allow it to come there, it is
+-- refused there with 7 or 8.
+module _ (img : List ℕ) (passes : Passes img) (text : List ℕ) {s place : ℕ} {below words : List ℕ} (way : Way img text (reached (s ∷ below) words place))
+    (settled : Settled img text place) (outdone : Outdone img text s place) where
+  stops : Stops img text (reached (s ∷ below) words place)
+  stops = record { no-step = λ b x. go x }
     where
-      go : (l : Looked) → Sees img text s (at .place) l → Outdone img text s (l .at .place)
-          → (l .code ≡ noTerminal) ⊎ ((l .code ≡ unexpected) ⊎ (l .code ≡ allowanceUsedUp))
-      go l (Sight.token size terminal to b r) o = absurd (no-leaf-there o terminal size r)
-      go l (Sight.end to b e) o =
-          absurd (omega (arith, e, o .last .within, length-drop (to .place) text, some-bytes (passes .good) (o .last)))
-      go l (Sight.none to b why) o = inl refl
-      go l (Sight.other size terminal to b why) o = inr (inl refl)
-      go l (Sight.spent to b) o = inr (inr refl)
+      go : {b : Reached} → Acts img text (reached (s ∷ below) words place) b → ⊥
+      go (skips n x) = no-blank img (passes .good) text settled x
+      go (shifts t n v r f) = no-leaf-there outdone t n r
+      go (reduces t p v (word n r) f k g) = no-leaf-there outdone t n r
+      go (reduces t p v (end-of-text l) f k g) = no-bytes img (passes .good) text l (outdone .last)
+
+  pub halts : {e : Ending} → Promised img text e → Halts words place e
+  halts {e} p =
+      record {
+        not-accepted = λ z. accepts (p .accepted z);
+        front = λ l. let f = before (p .refused l) in (f .more-words, f .front);
+        no-further = λ l. before (p .refused l) .no-less;
+        there-none = λ z.
+            let r = p .refused (omega (arith, z)) in
+            there r (none-stops img (passes .good) text (r .why-none z));
+        there-other = λ z.
+            let r = p .refused (omega (arith, z)) in
+            there r (other-stops img (passes .good) text (r .why-other z));
+      }
+    where
+      accepts : Accepted img text (e .words) → ⊥
+      accepts a =
+          let z = ap (λ (r : Reached). r .place)
+          (one-way img (passes .good) text (a .way) (accepts-stops img (passes .good) text (omega arith) (a .accepts)) way stops) in
+          let l : length text ≤ place = omega (arith, z) in
+          no-bytes img (passes .good) text l (outdone .last)
+
+      before : Refused img text e → Further (reached [] (e .words) (e .parsed .place)) (reached [] words place)
+      before r = go (along img (passes .good) text (r .way) way)
+        where
+          a : Reached
+          a = reached (r .state ∷ r .below) (e .words) (e .parsed .place)
+
+          go : Onward img text a (reached (s ∷ below) words place) ⊎ Onward img text (reached (s ∷ below) words place) a
+              → Further (reached [] (e .words) (e .parsed .place)) (reached [] words place)
+          go (inl o) = let f = further o in record { more-words = f .more-words; front = f .front; no-less = f .no-less }
+          go (inr o) =
+              let z = one-end o stops in
+              record {
+                more-words = [];
+                front = ap (λ (x : Reached). x .words) z ∙ sym (append-nil (e .words));
+                no-less = omega (arith, ap (λ (x : Reached). x .place) z);
+              }
+
+      there : (r : Refused img text e) → Stops img text (reached (r .state ∷ r .below) (e .words) (e .parsed .place)) → (e .parsed .place ≡ place) × (e .words ≡ words)
+      there r x =
+          let z = one-way img (passes .good) text (r .way) x way stops in
+          (ap (λ (y : Reached). y .place) z, ap (λ (y : Reached). y .words) z)
 
 -- .. and no record is a leaf from there on that was shifted in that state.
 pub no-record-there : {img text words : List ℕ} {place s start : ℕ} → Outdone img text s start → Covers img text words place → (i : ℕ) → i * recordWords < length words

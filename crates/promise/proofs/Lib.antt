@@ -6,6 +6,7 @@ pub mod Looks
 pub mod Main
 pub mod Marked
 pub mod Matching
+pub mod One
 pub mod Others
 pub mod Passing
 pub mod Promised
@@ -13,3 +14,4 @@ pub mod Records
 pub mod Stack
 pub mod Steps
 pub mod Unique
+pub mod Ways

@@ -2,7 +2,7 @@
 -- every crate is proved to meet its contract, which says that its result is the definition's. Assumes nothing.
 use mathlib.Core.Path.{_≡_}
 use mathlib.Core.Bool.{false}
-use mathlib.Core.List.{List, []}
+use mathlib.Core.List.{List, [], _∷_}
 use Prim.Native.Nat.{ℕ, _*_, _<_, _≤_}
 use lib.Dec.{T}
 use lib.ListN.{length, getD, take}
@@ -28,10 +28,11 @@ use Rattle.look.specs.declared.Spot.{Spot}
 use Rattle.look.specs.declared.Looked.{Looked}
 use Rattle.parse.specs.declared.Parsed.{Parsed}
 use Rattle.parse.specs.Parse.{recordWords, run, start, parse, treeAfter}
-use Rattle.promise.specs.Cover.{Covers}
+use Rattle.promise.specs.Cover.{Settled, Covers}
 use Rattle.promise.specs.Refusal.{Outdone}
-use Rattle.promise.specs.Promised.{Accepted, Refused, Promised}
+use Rattle.promise.specs.Promised.{Accepted, Refused, Given, Promised, Halts}
 use Rattle.promise.specs.RightLook.{RightLook}
+use Rattle.promise.specs.Way.{reached, Way}
 use Rattle.promise.specs.SmallPack.{small}
 use Rattle.promise.specs.Marked.{cases, allRight}
 use Rattle.promise.proofs.Records.{wordOf, LeafAt}
@@ -39,6 +40,7 @@ use Rattle.promise.proofs.Records as Records
 use Rattle.promise.proofs.Promised as Third
 use Rattle.promise.proofs.Entry as Entry
 use Rattle.promise.proofs.Letter as Letter
+use Rattle.promise.proofs.One as One
 use Rattle.promise.proofs.Marked as Marked
 use Rattle.promise.proofs.Passing as Passing
 
@@ -126,6 +128,16 @@ module _ (img : List ℕ) (checked : check img ≡ passed) (text tree : List ℕ
   pub refused : noTerminal ≤ parse img text tree allowance .parsed .code → Refused img text (parse img text tree allowance)
   refused = Third.promised-checked img checked text tree allowance .refused
 
+  -- Its codes are 0, 6, 7, 8, 11, 12 and 13.
+  pub codes : Given (parse img text tree allowance .parsed .code)
+  codes = Third.promised-checked img checked text tree allowance .codes
+
+  -- `group` where the keyword is not allowed is not read as the names `grou` and `p`: where the tables come to such a place, no parse gets
+  -- further, and with room and allowance enough it is refused there.
+  pub halts : {state place : ℕ} {below words : List ℕ} → Way img text (reached (state ∷ below) words place) → Settled img text place
+      → Outdone img text state place → Halts words place (parse img text tree allowance)
+  halts way settled outdone = Letter.halts img (Check.checked-passes img checked) text way settled outdone (Third.promised-checked img checked text tree allowance)
+
 -- The same of the functions themselves, by their contracts alone: of what `check` gave, and of what `parse` returned and left in the tree.
 module _ (img text tree tree′ : List ℕ) (allowance : ℕ) (c : Checked) (r : Parsed) (checks : c ≡ check img) (zeros : c ≡ passed)
     (gives : r ≡ parse img text tree allowance .parsed) (leaves : tree′ ≡ treeAfter tree (parse img text tree allowance)) where
@@ -141,6 +153,17 @@ module _ (img text tree tree′ : List ℕ) (allowance : ℕ) (c : Checked) (r :
   pub leaves-trees : noTerminal ≤ r .code → Refused img text (record { parsed = r; words = take (r .records * recordWords) tree′ })
   leaves-trees = Entry.refused img text tree tree′ allowance c r checks zeros gives leaves
 
+  pub returns-codes : Given (r .code)
+  returns-codes = Entry.codes img text tree tree′ allowance c r checks zeros gives leaves
+
+  pub halts-there : {words : List ℕ} {place : ℕ} → Halts words place (parse img text tree allowance)
+      → Halts words place (record { parsed = r; words = take (r .records * recordWords) tree′ })
+  halts-there = Entry.halted img text tree tree′ allowance c r checks zeros gives leaves
+
+-- A text has one derivation.
+pub one-derivation : (img : List ℕ) → Passes img → (text : List ℕ) {a b : List ℕ} → Accepted img text a → Accepted img text b → a ≡ b
+one-derivation = One.one-derivation
+
 -- Packs that pass are there: the small one does.
 pub small-passes : Passes small
 small-passes = Passing.small-passes
@@ -150,7 +173,7 @@ pub promised-run : (img : List ℕ) → Passes img → (text : List ℕ) {Fits :
     → (room : ℕ) → Promised img text (run img looks room start)
 promised-run = Third.promised-run
 
--- Each leaf by the numbers of its record; and `group` is never read as the names `grou` and `p`.
+-- Each leaf by the numbers of its record; and none begins where all that match are outranked.
 pub every-leaf : {img text words : List ℕ} {place : ℕ} → Covers img text words place → (i : ℕ) → i * recordWords < length words → wordOf words i 0 < firstNonterminal
     → LeafAt img text words i
 every-leaf = Records.every-leaf

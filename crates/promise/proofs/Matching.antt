@@ -3,17 +3,17 @@
 use mathlib.Core.Path.{_≡_, refl, sym, _∙_}
 use mathlib.Core.Bool.{Bool, true, false}
 use mathlib.Core.List.{List, [], _∷_}
-use Prim.Native.Nat.{ℕ, zero, suc, _<_, _^_}
+use Prim.Native.Nat.{ℕ, zero, suc, _<_, _≤_, _^_}
 use native.Mathlib.Omega.{arith}
 use lib.Dec.{ltb}
-use lib.Bits.{bitAnd, and-le-l, or-lt}
+use lib.Bits.{bitAnd, and-le-l, and-zero-l, or-lt}
 use borrow.Author.Tests.{ltb-true, ltb-false}
 use Rattle.sets.specs.Sets.{has, meet, less, single}
 use Rattle.sets.proofs.Laws.{has-none, has-suc, has-and, has-or, has-less, ext}
 use Rattle.pack.specs.Image.{terminals, scanStates, classOf, move, acc, rej}
 use Rattle.numbers.specs.declared.Verdict.the-variants.{Good}
 use Rattle.shape.specs.Shape.{shape}
-use Rattle.shape.proofs.Good.{good-laid, good-move, good-class, good-acc, good-rej}
+use Rattle.shape.proofs.Good.{good-start, good-laid, good-move, good-class, good-acc, good-rej}
 use Rattle.conditions.specs.Conditions.{matched}
 use Rattle.scan.specs.Matching.{ledFrom, Leads, Last}
 
@@ -29,6 +29,9 @@ one-last {n = n} {m = m} {p = p} {q = q} a b = go (ltb n m) refl (ltb m n) refl
     go true e y f = absurd (b .here (a .after m q (ltb-true n m e) (b .within) (b .leads)))
     go false e true f = absurd (a .here (b .after n p (ltb-true m n f) (a .within) (a .leads)))
     go false e false f = omega (arith, ltb-false n m e, ltb-false m n f)
+
+pub same-last : {img bytes : List ℕ} {v n m p q : ℕ} → Last img bytes v n p → Last img bytes v m q → p ≡ q
+same-last a b = same-state (a .leads) (rw (← one-last a b) at (b .leads))
 
 -- A set without terminal 0 meets V less bit 0 as it meets V.
 no-end : (k x v : ℕ) → x < 2 ^ k → has x 0 ≡ 0 → meet x (less v (single 0)) ≡ meet x v
@@ -84,3 +87,13 @@ module _ (img : List ℕ) (good : shape img ≡ Good) where
         here = λ z. l .here (sym (same-matched q v (led (l .leads))) ∙ z);
         after = λ m p h w f. same-matched p v (led f) ∙ l .after m p h w f;
       }
+
+-- A last place is past the first byte, since scan state 0 accepts and rejects nothing.
+pub some-bytes : {img : List ℕ} → shape img ≡ Good → {bytes : List ℕ} {v n q : ℕ} → Last img bytes v n q → 1 ≤ n
+unfolding ledFrom
+some-bytes {img} good {v = v} {n = zero} {q = q} l =
+    let y : suc 0 ≡ suc q = l .leads .way in
+    let z : 0 ≡ q = omega arith in
+    let b = good-start img good in
+    absurd (l .here (rw (← z, b .0, b .1) (and-zero-l v)))
+some-bytes good {n = suc n} l = omega arith

@@ -23,7 +23,7 @@ use Rattle.shape.proofs.Good.{good-parts, good-acc, good-rej, good-layout}
 use Rattle.shape.proofs.GoodParser.{good-accept}
 use Rattle.conditions.specs.Conditions.{matched}
 use Rattle.scan.specs.Matching.{Last}
-use Rattle.promise.specs.Refusal.{NoMatch}
+use Rattle.promise.specs.Cover.{NoMatch}
 use Rattle.promise.proofs.Matching.{led, matched-below}
 
 -- All terminals below k; and all but terminal 0.

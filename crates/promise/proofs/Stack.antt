@@ -19,8 +19,8 @@ use Rattle.promise.specs.Derivation.{Trees, none, leaf, node, Stands, bo
 pub join : {img xs ys a b : List ℕ} {r v u : ℕ} → Trees img r xs a v → Trees img v ys b u → Trees img r (xs ++ ys) (a ++ b) u
 join none k = k
 join (leaf start size l e t) k = leaf start size l e (join t k)
-join {img} {b = b} (node {r = r} {p = p} {children = c} {words = ws} l kids e t) k =
-    rw (append-assoc c (nodeRecord img p r ++ ws) b) (node l kids e (join t k))
+join {img} {b = b} (node {r = r} {p = p} {children = c} {words = ws} l kids d e t) k =
+    rw (append-assoc c (nodeRecord img p r ++ ws) b) (node l kids d e (join t k))
 
 -- What lies below a state that is not the lowest.
 record Below (img : List ℕ) (v : ℕ) (rest words : List ℕ) : Type 0 where
@@ -48,7 +48,7 @@ drop-height i u l rest e = omega (arith, length-drop i l, ap length e)
 module _ (img : List ℕ) (passes : Passes img) where
   edge : {u x v : ℕ} {tree : List ℕ} → u < states img → Trees img u (x ∷ []) tree v → Edge img u x v
   edge l (leaf start size lt e none) = shifts l lt e
-  edge l (node {p = p} lp kids e none) = goes l (good-lhs img (passes .good) p lp) e
+  edge l (node {p = p} lp kids d e none) = goes l (good-lhs img (passes .good) p lp) e
 
   target : {u x v : ℕ} → Edge img u x v → v < states img
   target {u} {x} {v} (shifts l lt e) = good-shift img (passes .good) u x v l lt e .1
@@ -138,7 +138,7 @@ module _ (img : List ℕ) (passes : Passes img) where
                   back = rw (o .there) (o .back);
                   v = v;
                   cell = rw (o .there) e;
-                  after = rw (o .there, o .split, append-assoc (o .before) (o .kids) (nodeRecord img p (o .u))) (push (o .lower) (node lp whole (e ∙ one) none));
+                  after = rw (o .there, o .split, append-assoc (o .before) (o .kids) (nodeRecord img p (o .u))) (push (o .lower) (node lp whole reduces (e ∙ one) none));
                 }
               where
                 one : suc v ≡ 1 + v

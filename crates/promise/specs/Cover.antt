@@ -5,7 +5,7 @@ use mathlib.Core.List.{List, [], _++_}
 use Prim.Native.Nat.{ℕ, _+_, _<_}
 use lib.ListN.{drop}
 use Rattle.sets.specs.Sets.{has, meet}
-use Rattle.pack.specs.Image.{groups, layout, dom, acc, groupSet, chosen, validSet}
+use Rattle.pack.specs.Image.{states, groups, layout, dom, acc, groupSet, chosen, validSet}
 use Rattle.scan.specs.Matching.{Accepts, Matches, Last}
 use Rattle.parse.specs.Leaf.{part}
 use Rattle.parse.specs.Parse.{leafRecord, nodeRecord}
@@ -15,9 +15,20 @@ pub data Chosen (img : List ℕ) (set terminal : ℕ) : Type 0 where
   alone : ((t : ℕ) → has set t ≡ 1 → t ≡ terminal) → Chosen img set terminal
   grouped : (g : ℕ) → g < groups img → groupSet img g ≡ set → chosen img g ≡ terminal → Chosen img set terminal
 
--- A leaf of so many bytes from a start on, shifted in a parse state. The letter's words stand at the lines that say them; q is the scan
--- state where the leaf ends.
+-- Nothing of a set is matched: the last length at which, reading on, a terminal of the set is accepted or rejected, if there is one,
+-- only rejects.
+pub record NoMatch (img bytes : List ℕ) (v : ℕ) : Type 0 where
+  pub only-rejects : (n q : ℕ) → Last img bytes v n q → meet (acc img q) v ≡ 0
+
+-- Layout is skipped to its end: none is matched from the place on.
+abbrev pub Settled : List ℕ → List ℕ → ℕ → Type 0
+Settled img text place = NoMatch img (drop place text) (layout img)
+
+-- A leaf of so many bytes from a start on, shifted in a state of the pack where layout before it is skipped to its end. The letter's words
+-- stand at the lines that say them; q is the scan state where the leaf ends.
 pub record RightLeaf (img text : List ℕ) (terminal start size state : ℕ) : Type 0 where
+  pub is-state : state < states img
+  pub after-layout : Settled img text start
   pub q : ℕ
   -- "ends at the last byte where, reading on from its start, any terminal valid in its recorded state matches or is rejected"
   pub last : Last img (drop start text) (validSet img state) size q

@@ -5,3 +5,4 @@ pub mod Promised
 pub mod Refusal
 pub mod RightLook
 pub mod SmallPack
+pub mod Way

@@ -3,29 +3,26 @@ use mathlib.Core.Path.{_≡_}
 use mathlib.Core.List.{List}
 use Prim.Native.Nat.{ℕ, _<_, _≤_}
 use lib.ListN.{length, drop}
-use Rattle.sets.specs.Sets.{has, meet}
-use Rattle.pack.specs.Image.{dom, acc, validSet, allButEndAndLayout, endOfText}
+use Rattle.sets.specs.Sets.{has}
+use Rattle.pack.specs.Image.{dom, act, validSet, allButEndAndLayout, endOfText}
 use Rattle.scan.specs.Matching.{Accepts, Matches, Last}
 use Rattle.parse.specs.Leaf.{part}
+use Rattle.promise.specs.Cover.{NoMatch, Settled}
 
--- Nothing of a set is matched: the last length at which, reading on, a terminal of the set is accepted or rejected, if there is one,
--- only rejects.
-pub record NoMatch (img bytes : List ℕ) (v : ℕ) : Type 0 where
-  pub only-rejects : (n q : ℕ) → Last img bytes v n q → meet (acc img q) v ≡ 0
-
--- Code 7 at a place before the end, in a parse state: no terminal that is valid in the state matches, and no other.
+-- Code 7 at a place before the end, past all layout, in a parse state: no terminal that is valid in the state matches, and no other.
 pub record NoTerminal (img text : List ℕ) (state place : ℕ) : Type 0 where
   pub before-end : place < length text
+  pub after-layout : Settled img text place
   pub none-valid : NoMatch img (drop place text) (validSet img state)
   pub no-other : NoMatch img (drop place text) (allButEndAndLayout img)
 
 -- Code 8, with its length and terminal.
 pub data Unexpected (img text : List ℕ) (state place : ℕ) : ℕ → ℕ → Type 0 where
   -- The text ends where it may not end.
-  at-end : length text ≤ place → has (validSet img state) endOfText ≡ 0 → Unexpected img text state place 0 endOfText
-  -- No terminal that is valid in the state matches. Of all but the end of the text and layout some do, at the last length at which they
+  at-end : length text ≤ place → act img state endOfText ≡ 0 → has (validSet img state) endOfText ≡ 0 → Unexpected img text state place 0 endOfText
+  -- Past all layout no terminal that is valid in the state matches. Of all but the end of the text and layout some do, at the last length at which they
   -- are accepted or rejected. This is the lowest of those that are accepted there, and it is not valid.
-  instead : (size terminal q : ℕ) → place < length text → NoMatch img (drop place text) (validSet img state)
+  instead : (size terminal q : ℕ) → place < length text → Settled img text place → NoMatch img (drop place text) (validSet img state)
       → Last img (drop place text) (allButEndAndLayout img) size q
       → has (validSet img state) terminal ≡ 0 → has (allButEndAndLayout img) terminal ≡ 1 → Accepts img (part text place size) terminal
       → ((t : ℕ) → has (allButEndAndLayout img) t ≡ 1 → Accepts img (part text place size) t → terminal ≤ t)
