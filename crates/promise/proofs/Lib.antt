@@ -15,3 +15,4 @@ pub mod Stack
 pub mod Steps
 pub mod Unique
 pub mod Ways
+pub mod WrongLooks

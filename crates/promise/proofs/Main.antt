@@ -33,6 +33,7 @@ use Rattle.promise.specs.Refusal.{Outdone}
 use Rattle.promise.specs.Promised.{Accepted, Refused, Given, Promised, Halts}
 use Rattle.promise.specs.RightLook.{RightLook}
 use Rattle.promise.specs.Way.{reached, Way}
+use Rattle.promise.specs.WrongLooks.{tiny, tinyText, kept, filtered}
 use Rattle.promise.specs.SmallPack.{small}
 use Rattle.promise.specs.Marked.{cases, allRight}
 use Rattle.promise.proofs.Records.{wordOf, LeafAt}
@@ -41,6 +42,7 @@ use Rattle.promise.proofs.Promised as Third
 use Rattle.promise.proofs.Entry as Entry
 use Rattle.promise.proofs.Letter as Letter
 use Rattle.promise.proofs.One as One
+use Rattle.promise.proofs.WrongLooks as Wrong
 use Rattle.promise.proofs.Marked as Marked
 use Rattle.promise.proofs.Passing as Passing
 
@@ -172,6 +174,13 @@ small-passes = Passing.small-passes
 pub promised-run : (img : List ℕ) → Passes img → (text : List ℕ) {Fits : ℕ → Spot → Type 0} {looks : ℕ → Spot → Looked} → RightLook img text Fits looks
     → (room : ℕ) → Promised img text (run img looks room start)
 promised-run = Third.promised-run
+
+-- The longest match over all terminals, filtered afterwards, is not right; nor is a token kept across a reduction.
+pub filtered-is-wrong : {Fits : ℕ → Spot → Type 0} → RightLook tiny tinyText Fits filtered → ⊥
+filtered-is-wrong = Wrong.filtered-is-wrong
+
+pub kept-is-wrong : {Fits : ℕ → Spot → Type 0} → RightLook tiny tinyText Fits kept → ⊥
+kept-is-wrong = Wrong.kept-is-wrong
 
 -- Each leaf by the numbers of its record; and none begins where all that match are outranked.
 pub every-leaf : {img text words : List ℕ} {place : ℕ} → Covers img text words place → (i : ℕ) → i * recordWords < length words → wordOf words i 0 < firstNonterminal

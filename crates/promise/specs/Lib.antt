@@ -6,3 +6,4 @@ pub mod Refusal
 pub mod RightLook
 pub mod SmallPack
 pub mod Way
+pub mod WrongLooks
