@@ -30,7 +30,7 @@ use Rattle.parse.specs.declared.Parsed.{Parsed}
 use Rattle.parse.specs.Parse.{recordWords, run, start, parse, treeAfter}
 use Rattle.promise.specs.Cover.{Settled, Covers}
 use Rattle.promise.specs.Refusal.{Outdone}
-use Rattle.promise.specs.Promised.{Accepted, Refused, Given, Promised, Halts}
+use Rattle.promise.specs.Promised.{Accepted, Refused, Given, Promised, Halts, Own, Alike}
 use Rattle.promise.specs.RightLook.{RightLook}
 use Rattle.promise.specs.Way.{reached, Way}
 use Rattle.promise.specs.WrongLooks.{tiny, tinyText, kept, filtered}
@@ -165,6 +165,11 @@ module _ (img text tree tree′ : List ℕ) (allowance : ℕ) (c : Checked) (r :
 -- A text has one derivation.
 pub one-derivation : (img : List ℕ) → Passes img → (text : List ℕ) {a b : List ℕ} → Accepted img text a → Accepted img text b → a ≡ b
 one-derivation = One.one-derivation
+
+-- Room and allowance can cut a parse short, and do not change it.
+pub one-answer : (img : List ℕ) → check img ≡ passed → (text tree tree′ : List ℕ) (allowance allowance′ : ℕ) → Own (parse img text tree allowance .parsed .code)
+    → Own (parse img text tree′ allowance′ .parsed .code) → Alike (parse img text tree allowance) (parse img text tree′ allowance′)
+one-answer = One.one-answer
 
 -- Packs that pass are there: the small one does.
 pub small-passes : Passes small

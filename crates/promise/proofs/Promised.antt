@@ -64,7 +64,7 @@ promised img passes text tree allowance = go (ltb longestText (length text)) ref
     go : (x : Bool) → ltb longestText (length text) ≡ x → Promised img text (parse img text tree allowance)
     go true e =
         simp (parse, e)
-        (record { codes = too-long; never-stuck = λ z. omega arith; never-two = λ z. omega arith; accepted = λ z. absurd (omega arith); refused = λ z. absurd (omega arith) })
+        (record { codes = too-long; never-stuck = λ z. omega arith; never-two = λ z. omega arith; accepted = λ z. absurd (omega arith); at-the-end = λ z. absurd (omega arith); refused = λ z. absurd (omega arith) })
     go false e = simp (parse, e, passes .good) (promised-run img passes text (right-look img passes text allowance) (roomOf tree))
 
 -- .. in terms of the check.

@@ -47,6 +47,7 @@ refuses {s = s} {rest = rest} code size terminal at trees way given a b c why7 w
       never-stuck = c;
       never-two = b;
       accepted = λ z. absurd (a z);
+      at-the-end = λ z. absurd (a z);
       refused = λ z. record { state = s; below = rest; trees = trees; cover = covers way; way = way; why-none = why7; why-other = why8 };
     }
 
@@ -96,6 +97,7 @@ module _ (img : List ℕ) (passes : Passes img) (text : List ℕ) {Fits : ℕ �
             never-stuck = λ y. omega arith;
             never-two = λ y. omega arith;
             accepted = λ y. record { final = s; derivation = a .1; cover = rw z at (covers way); way = rw (a .0, z) at way; accepts = e };
+            at-the-end = λ y. z;
             refused = λ y. absurd (omega arith);
           }))
 

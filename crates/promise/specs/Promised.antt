@@ -52,6 +52,7 @@ pub record Promised (img text : List ℕ) (e : Ending) : Type 0 where
   pub never-two : e .parsed .code ≡ noGroup → ⊥
   -- "If it accepts, its records are .."
   pub accepted : e .parsed .code ≡ done → Accepted img text (e .words)
+  pub at-the-end : e .parsed .code ≡ done → e .parsed .place ≡ length text
   -- The codes of a run that was refused are those from 7 on.
   pub refused : noTerminal ≤ e .parsed .code → Refused img text e
 
@@ -63,3 +64,16 @@ pub record Halts (words : List ℕ) (place : ℕ) (e : Ending) : Type 0 where
   pub no-further : noTerminal ≤ e .parsed .code → e .parsed .place ≤ place
   pub there-none : e .parsed .code ≡ noTerminal → (e .parsed .place ≡ place) × (e .words ≡ words)
   pub there-other : e .parsed .code ≡ unexpected → (e .parsed .place ≡ place) × (e .words ≡ words)
+
+-- A parse that came to an end of its own: it was not cut short by the limits of text, tree, stack or allowance.
+pub data Own (code : ℕ) : Type 0 where
+  accepting : code ≡ done → Own code
+  none-found : code ≡ noTerminal → Own code
+  other-found : code ≡ unexpected → Own code
+
+-- Two endings that say the same.
+pub record Alike (e f : Ending) : Type 0 where
+  pub code : e .parsed .code ≡ f .parsed .code
+  pub place : e .parsed .place ≡ f .parsed .place
+  pub words : e .words ≡ f .words
+  pub token : e .parsed .code ≡ unexpected → (e .parsed .length ≡ f .parsed .length) × (e .parsed .terminal ≡ f .parsed .terminal)
