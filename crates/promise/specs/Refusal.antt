@@ -19,9 +19,10 @@ pub record NoTerminal (img text : List ℕ) (state place : ℕ) : Type 0 where
 -- Code 8, with its length and terminal.
 pub data Unexpected (img text : List ℕ) (state place : ℕ) : ℕ → ℕ → Type 0 where
   -- The text ends where it may not end.
-  at-end : length text ≤ place → act img state endOfText ≡ 0 → has (validSet img state) endOfText ≡ 0 → Unexpected img text state place 0 endOfText
-  -- Past all layout no terminal that is valid in the state matches. Of all but the end of the text and layout some do, at the last length at which they
-  -- are accepted or rejected. This is the lowest of those that are accepted there, and it is not valid.
+  at-end : length text ≤ place → act img state endOfText ≡ 0 → has (validSet img state) endOfText ≡ 0
+      → Unexpected img text state place 0 endOfText
+  -- Past all layout no terminal that is valid in the state matches. Of all but the end of the text and layout some do, at the last
+  -- length at which they are accepted or rejected. This is the lowest of those that are accepted there, and it is not valid.
   instead : (size terminal q : ℕ) → place < length text → Settled img text place → NoMatch img (drop place text) (validSet img state)
       → Last img (drop place text) (allButEndAndLayout img) size q
       → has (validSet img state) terminal ≡ 0 → has (allButEndAndLayout img) terminal ≡ 1 → Accepts img (part text place size) terminal

@@ -22,14 +22,17 @@ pub record Reached : Type 0 where
 abbrev pub reached : List ℕ → List ℕ → ℕ → Reached
 reached stack words place = record { stack = stack; words = words; place = place }
 
--- One step of the way: a piece of layout; or the action that the state on top has for the token that it sees itself, a shift or a reduction.
+-- One step of the way: a piece of layout; or the action that the state on top has for the token that it sees itself, a shift or a
+-- reduction.
 pub data Acts (img text : List ℕ) (a : Reached) : Reached → Type 0 where
   skips : (size : ℕ) → Blank img text (a .place) size → Acts img text a (reached (a .stack) (a .words) (a .place + size))
-  shifts : (terminal size v : ℕ) → RightLeaf img text terminal (a .place) size (top (a .stack)) → act img (top (a .stack)) terminal ≡ 2 + 2 * v
+  shifts : (terminal size v : ℕ) → RightLeaf img text terminal (a .place) size (top (a .stack))
+      → act img (top (a .stack)) terminal ≡ 2 + 2 * v
       → Acts img text a (reached (v ∷ a .stack) (a .words ++ leafRecord terminal (a .place) size (top (a .stack))) (a .place + size))
   reduces : (terminal p v : ℕ) → Token img text (top (a .stack)) (a .place) terminal → act img (top (a .stack)) terminal ≡ 3 + 2 * p
       → len img p < length (a .stack) → goto img (top (drop (len img p) (a .stack))) (lhs img p) ≡ 1 + v
-      → Acts img text a (reached (v ∷ drop (len img p) (a .stack)) (a .words ++ nodeRecord img p (top (drop (len img p) (a .stack)))) (a .place))
+      → Acts img text a
+      (reached (v ∷ drop (len img p) (a .stack)) (a .words ++ nodeRecord img p (top (drop (len img p) (a .stack)))) (a .place))
 
 -- The way from the start.
 pub data Way (img text : List ℕ) : Reached → Type 0 where

@@ -14,7 +14,8 @@ use Rattle.look.specs.Look.{settled, seek, found, refused, rescan, choose, toke
 
 -- A token kept across a reduction: what was found in the state before the reduction is given after it too.
 unfoldable pub keptLook : List ℕ → List ℕ → ℕ → ℕ → ℕ → Spot → Looked
-keptLook img text allowance before s at = elim (at .due) [ true ↦ look img text allowance s at | false ↦ token img text allowance before at ]
+keptLook img text allowance before s at =
+    elim (at .due) [ true ↦ look img text allowance s at | false ↦ token img text allowance before at ]
 
 -- The longest match over all terminals, filtered afterwards by those that the state allows.
 unfoldable pub filteredToken : List ℕ → List ℕ → ℕ → ℕ → Spot → Looked
@@ -41,8 +42,8 @@ filteredLook img text allowance s at =
           elim (f .spent) [ true ↦ refused allowanceUsedUp 0 0 (f .at) | false ↦ filteredToken img text allowance s (settled (f .at)) ]
     ]
 
--- Terminals: 0 the end, 1 `x`, 2 `a`, 3 `ab`. S is A `a` or A `ab`, and A is `x`. In state 1, after `x`, only `a` is valid, and A is reduced
--- before it; in state 2, after A, `ab` is valid too.
+-- Terminals: 0 the end, 1 `x`, 2 `a`, 3 `ab`. S is A `a` or A `ab`, and A is `x`. In state 1, after `x`, only `a` is valid, and A is
+-- reduced before it; in state 2, after A, `ab` is valid too.
 unfoldable pub tiny : List ℕ
 tiny =
     1 ∷
