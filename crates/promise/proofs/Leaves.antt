@@ -21,12 +21,13 @@ use Rattle.scan.specs.declared.Stop.{Stop}
 use Rattle.scan.specs.Scan.{scan}
 use Rattle.scan.specs.Token.{chosenIn, terminalOf}
 use Rattle.scan.specs.Matching.{Accepts, Last}
+use Rattle.scan.proofs.Matching.{same-state, led}
 use Rattle.scan.proofs.Longest.{match-is-last, no-match-rejects, accepted-alone}
 use Rattle.look.specs.Look.{tokenSet}
 use Rattle.parse.specs.Leaf.{part}
 use Rattle.promise.specs.Cover.{Chosen, alone, grouped, NoMatch, Settled, RightLeaf, Blank}
 use Rattle.promise.specs.Refusal.{Unexpected, instead}
-use Rattle.promise.proofs.Matching.{same-state, led, same-accepted, with-end, without-end}
+use Rattle.promise.proofs.Matching.{same-accepted, with-end, without-end}
 use Rattle.promise.proofs.Others.{not-valid}
 
 -- The first group of a set, or none.

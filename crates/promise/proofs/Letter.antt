@@ -21,7 +21,7 @@ use Rattle.promise.specs.Cover.{Settled, RightLeaf, Covers}
 use Rattle.promise.specs.Refusal.{Outdone}
 use Rattle.promise.specs.Promised.{Accepted, Refused, Promised, Halts}
 use Rattle.promise.specs.Way.{word, end-of-text, Reached, reached, Acts, skips, shifts, reduces, Way}
-use Rattle.promise.proofs.Matching.{one-last}
+use Rattle.scan.proofs.Matching.{one-last}
 use Rattle.promise.proofs.Ways.{Onward, Stops, Further, further, no-blank, no-bytes, along, one-end, one-way, accepts-stops, none-stops, other-stops}
 use Rattle.promise.proofs.Records.{wordOf, every-leaf}
 

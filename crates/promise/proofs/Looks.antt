@@ -19,7 +19,7 @@ use Rattle.look.specs.Look.{scanned, past, settled, seek, rescan, choose, token
 use Rattle.promise.specs.Cover.{NoMatch, Settled, Blank, Blanks, none, more}
 use Rattle.promise.specs.RightLook.{Sees, RightLook}
 use Rattle.promise.specs.RightLook as Sight
-use Rattle.promise.proofs.Matching.{some-bytes}
+use Rattle.scan.proofs.Matching.{some-bytes}
 use Rattle.promise.proofs.Leaves.{no-match, blanked, Taken, taken, none-valid, other}
 
 true-false : true ≡ false → ⊥

@@ -16,7 +16,7 @@ use Rattle.parse.specs.Parse.{Ending, parse, top}
 use Rattle.promise.specs.Refusal.{NoTerminal, Unexpected, at-end, instead}
 use Rattle.promise.specs.Promised.{Accepted, Promised, Own, accepting, none-found, other-found, Alike}
 use Rattle.promise.specs.Way.{Reached, reached, Way}
-use Rattle.promise.proofs.Matching.{same-state, one-last}
+use Rattle.scan.proofs.Matching.{same-state, one-last}
 use Rattle.promise.proofs.Ways.{Stops, one-way, accepts-stops, none-stops, other-stops}
 use Rattle.promise.proofs.Promised.{promised-checked}
 

@@ -24,7 +24,8 @@ use Rattle.shape.proofs.GoodParser.{good-accept}
 use Rattle.conditions.specs.Conditions.{matched}
 use Rattle.scan.specs.Matching.{Last}
 use Rattle.promise.specs.Cover.{NoMatch}
-use Rattle.promise.proofs.Matching.{led, matched-below}
+use Rattle.scan.proofs.Matching.{led}
+use Rattle.promise.proofs.Matching.{matched-below}
 
 -- All terminals below k; and all but terminal 0.
 all-below : (k t : ℕ) → t < k → has (2 ^ k - 1) t ≡ 1

@@ -29,7 +29,7 @@ use Rattle.promise.specs.Way.{Token, word, end-of-text, reached, Way, on
 use Rattle.promise.specs.Way as Walk
 use Rattle.promise.specs.RightLook.{Sees, RightLook}
 use Rattle.promise.specs.RightLook as Sight
-use Rattle.promise.proofs.Matching.{led}
+use Rattle.scan.proofs.Matching.{led}
 use Rattle.promise.proofs.Ways.{covers, covers-within, on-blanks}
 use Rattle.promise.proofs.Stack.{is-state, Reduced, reduced, accepts, shifted}
 

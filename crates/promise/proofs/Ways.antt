@@ -21,7 +21,7 @@ use Rattle.scan.specs.Matching.{Last}
 use Rattle.promise.specs.Cover.{Chosen, alone, grouped, NoMatch, Settled, RightLeaf, Blank, Blanks, none, more, Covers, start, blank, leaf, node}
 use Rattle.promise.specs.Refusal.{NoTerminal, Unexpected, at-end, instead}
 use Rattle.promise.specs.Way.{Token, word, end-of-text, Reached, reached, Acts, skips, shifts, reduces, Way, begin, on}
-use Rattle.promise.proofs.Matching.{same-state, one-last, same-last, some-bytes}
+use Rattle.scan.proofs.Matching.{same-state, one-last, same-last, some-bytes}
 
 -- A way is a cover, and goes on over pieces of layout. A cover lies within the text.
 pub covers : {img text : List ℕ} {a : Reached} → Way img text a → Covers img text (a .words) (a .place)

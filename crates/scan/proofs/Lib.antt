@@ -1,4 +1,5 @@
 pub mod Laws
 pub mod Longest
+pub mod Matching
 pub mod Ranges
 pub mod Theory
