@@ -1,5 +1,6 @@
-/* The benchmark: the proved library, plain C and plain Rust side by side in one process. First the three must give the same answers, on
- * each input that is timed and on many damaged ones; then each row is timed, and the least of several measurements is printed.
+/* The benchmark: the proved library, plain C, plain Rust and fast C side by side in one process. First all of them must give the same
+ * answers, on each input that is timed and on many damaged ones; then each row is timed, and the least of several measurements is
+ * printed.
  *   bench PACKS             the table; PACKS is the folder of json.pack and profile.pack
  *   bench PACKS --growth    how the time of the check grows with the parse states and the productions */
 #include <stdbool.h>
@@ -35,8 +36,9 @@ static const struct version versions[VERSIONS] = {
     {"plain Rust", plain_rust_shape, plain_rust_check, plain_rust_scan, plain_rust_read, plain_rust_write, plain_rust_parse},
 };
 
-/* Plain C that parses without its shape test, and does nothing else. */
+/* Plain C that parses without its shape test, and does nothing else; and C made as fast as we can, of three functions. */
 static const struct version run_alone = {.name = "plain C's run", .parse = plain_c_run};
+static const struct version fast = {.name = "fast C", .shape = fast_c_shape, .read = fast_c_read, .write = fast_c_write};
 
 struct image {
     uint16_t words[MOST_WORDS];
@@ -343,6 +345,12 @@ static void worst_pack(struct image *image, size_t states, size_t productions, b
 
 /* ---- the same answers ---- */
 
+/* Is there a fast version of the function? */
+static bool is_fast(const struct call *call)
+{
+    return call->kind == SHAPE || call->kind == READ || call->kind == WRITE;
+}
+
 static size_t compared;
 
 /* The buffer that a call is lent, whole, and its size in bytes. Of the tree a little more than the call may use. */
@@ -402,6 +410,8 @@ static void compare(const struct call *call)
         compare_with(&first, &versions[v], call);
     if (call->kind == PARSE && first.out[0] != 4 && first.out[0] != 6)
         compare_with(&first, &run_alone, call);
+    if (is_fast(call))
+        compare_with(&first, &fast, call);
     compared++;
 }
 
@@ -535,14 +545,14 @@ struct row {
     uint64_t code, moves;
     const char *unit;
     double per_second;
-    /* How many calls a batch has, and the seconds of one call, by version; the last is plain C's run alone, of a parse. */
+    /* How many calls a batch has, and the seconds of one call, by version; the last is plain C's run alone, of a parse, or fast C. */
     size_t calls[VERSIONS + 1];
     double seconds[VERSIONS + 1];
 };
 
 static const struct version *version_of(const struct row *row, int v)
 {
-    return v < VERSIONS ? &versions[v] : row->call.kind == PARSE ? &run_alone : NULL;
+    return v < VERSIONS ? &versions[v] : row->call.kind == PARSE ? &run_alone : is_fast(&row->call) ? &fast : NULL;
 }
 
 /* Tests that the row is what it says, and makes its batches long enough. */
@@ -585,7 +595,11 @@ static void show(const struct row *row)
     printf("| %-44s | %6zu %-5s | %-11s |", row->what, row->size, row->sized, row->unit);
     for (int v = 0; v < VERSIONS; v++)
         printf(" %10.3f |", seconds[v] * row->per_second);
-    printf(" %8.2f | %11.2f |\n", seconds[0] / seconds[1], seconds[0] / seconds[2]);
+    if (is_fast(&row->call))
+        printf(" %10.3f | %8.2f | %11.2f | %11.2f |\n", seconds[VERSIONS] * row->per_second, seconds[0] / seconds[1],
+               seconds[0] / seconds[2], seconds[0] / seconds[VERSIONS]);
+    else
+        printf(" %10s | %8.2f | %11.2f | %11s |\n", "-", seconds[0] / seconds[1], seconds[0] / seconds[2], "-");
 }
 
 static struct row shape_row(const char *what, const struct image *image, size_t walked, uint64_t code)
@@ -659,9 +673,9 @@ static size_t draw_json(char text[MOST_BYTES])
 
 static void show_head(const char *what)
 {
-    printf("| %-44s | %-12s | %-11s | %10s | %10s | %10s | %8s | %11s |\n", what, "size", "unit", versions[0].name, versions[1].name,
-           versions[2].name, "proved/C", "proved/Rust");
-    printf("|---|---|---|---|---|---|---|---|\n");
+    printf("| %-44s | %-12s | %-11s | %10s | %10s | %10s | %10s | %8s | %11s | %11s |\n", what, "size", "unit", versions[0].name,
+           versions[1].name, versions[2].name, fast.name, "proved/C", "proved/Rust", "proved/fast");
+    printf("|---|---|---|---|---|---|---|---|---|---|\n");
 }
 
 /* The aim for a short query: no slower than plain C's run without its shape test and 0.15 ns for each word of the pack. */

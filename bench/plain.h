@@ -1,5 +1,5 @@
 /* The plain versions, with the arguments and answers of include/zhgarelli.h: plain.c in C, plain.rs in safe Rust. `plain_c_run` is
- * `plain_c_parse` for a query and an image that are known to be good: it tests neither. */
+ * `plain_c_parse` for a query and an image that are known to be good: it tests neither. fast.c has what C can be made to do. */
 #ifndef PLAIN_H
 #define PLAIN_H
 
@@ -16,6 +16,10 @@ size_t plain_c_parse(const uint16_t *img, size_t img_words, const uint8_t *text,
                      uint32_t allowance, uint64_t *out, size_t out_len);
 size_t plain_c_run(const uint16_t *img, size_t img_words, const uint8_t *text, size_t text_bytes, uint16_t *tree, size_t tree_words,
                    uint32_t allowance, uint64_t *out, size_t out_len);
+
+size_t fast_c_shape(const uint16_t *img, size_t img_words, uint64_t *out, size_t out_len);
+size_t fast_c_read(const uint8_t *text, size_t text_bytes, uint16_t *buffer, size_t buffer_words, uint64_t *out, size_t out_len);
+size_t fast_c_write(const uint16_t *img, size_t img_words, uint8_t *buffer, size_t buffer_bytes, uint64_t *out, size_t out_len);
 
 size_t plain_rust_shape(const uint16_t *img, size_t img_words, uint64_t *out, size_t out_len);
 size_t plain_rust_scan(const uint16_t *img, size_t img_words, const uint8_t *text, size_t text_bytes, size_t start, uint64_t set,
