@@ -21,14 +21,14 @@ use Rattle.scan.specs.declared.Stop.{Stop}
 use Rattle.scan.specs.Scan.{scan}
 use Rattle.scan.specs.Token.{chosenIn, terminalOf}
 use Rattle.scan.specs.Matching.{Accepts, Last}
-use Rattle.scan.proofs.Matching.{same-state, led}
+use Rattle.scan.proofs.Matching.{same-state, led, some-bytes}
 use Rattle.scan.proofs.Longest.{match-is-last, no-match-rejects, accepted-alone}
 use Rattle.look.specs.Look.{tokenSet}
 use Rattle.parse.specs.Leaf.{part}
 use Rattle.promise.specs.Cover.{Chosen, alone, grouped, NoMatch, Settled, RightLeaf, Blank}
 use Rattle.promise.specs.Refusal.{Unexpected, instead}
 use Rattle.promise.proofs.Matching.{same-accepted, with-end, without-end}
-use Rattle.promise.proofs.Others.{not-valid}
+use Rattle.promise.proofs.Others.{not-layout, not-valid}
 
 -- The first group of a set, or none.
 module _ (img : List ℕ) (set : ℕ) where
@@ -155,7 +155,7 @@ module _ (img : List ℕ) (passes : Passes img) where
         → Blank img text place (scan img (layout img) allowance (drop place text) .length)
     blanked e ne =
         let m = matches text allowance place (layout img) e ne in
-        record { q = m .q; last = m .last; terminal = _; is-layout = m .inside; accepted = m .accepted }
+        record { q = m .q; last = m .last; some = some-bytes (passes .good) (m .last); terminal = _; is-layout = m .inside; accepted = m .accepted }
 
     -- A match of the token scan: never code 9, and the leaf is right.
     pub record Taken (s : ℕ) (stop : Stop) : Type 0 where
@@ -185,18 +185,22 @@ module _ (img : List ℕ) (passes : Passes img) where
             let t = n .terminal in
             let a : has (acc img q) t ≡ 1 = omega (arith, n .inside, has-and (acc img q) (validSet img s) t, has-lt (acc img q) t, has-lt (validSet img s) t) in
             let v : has (validSet img s) t ≡ 1 = omega (arith, n .inside, has-and (acc img q) (validSet img s) t, has-lt (acc img q) t, has-lt (validSet img s) t) in
+            let c = valid-cell img s t v in
             record {
               terminal = t;
               name = rw same (n .name);
               right = record {
                 is-state = ls;
                 after-layout = settled;
+                some = some-bytes (passes .good) (m .last);
+                not-end = λ z. let b = rw z at a in omega (arith, b, good-acc img (passes .good) q lq .1);
+                not-layout = not-layout img (passes .good) s t ls (c .0) (c .1);
                 q = q;
                 last = with-end img (passes .good) (m .last);
                 valid = v;
                 accepted = record { state = q; leads = m .last .leads; here = a };
                 not-outranked = λ u d k.
-                    accepted-alone img (passes .good) q lq (passes .k1 q lq) t u (valid-cell img s t v .0) a d
+                    accepted-alone img (passes .good) q lq (passes .k1 q lq) t u (c .0) a d
                     (rw (same-state (k .leads) (m .last .leads)) at (k .here));
                 one = n .one;
               };

@@ -135,7 +135,7 @@ module _ (img : List ℕ) (checked : check img ≡ passed) (text tree : List ℕ
   codes = Third.promised-checked img checked text tree allowance .codes
 
   -- `group` where the keyword is not allowed is not read as the names `grou` and `p`: where the tables come to such a place, no parse gets
-  -- further, and with room and allowance enough it is refused there.
+  -- further, and one that is not cut short by the limits of text, tree, stack or allowance is refused there, with 7 or 8.
   pub halts : {state place : ℕ} {below words : List ℕ} → Way img text (reached (state ∷ below) words place) → Settled img text place
       → Outdone img text state place → Halts words place (parse img text tree allowance)
   halts way settled outdone = Letter.halts img (Check.checked-passes img checked) text way settled outdone (Third.promised-checked img checked text tree allowance)
@@ -162,11 +162,11 @@ module _ (img text tree tree′ : List ℕ) (allowance : ℕ) (c : Checked) (r :
       → Halts words place (record { parsed = r; words = take (r .records * recordWords) tree′ })
   halts-there = Entry.halted img text tree tree′ allowance c r checks zeros gives leaves
 
--- A text has one derivation.
+-- On the way of the tables a text has one derivation.
 pub one-derivation : (img : List ℕ) → Passes img → (text : List ℕ) {a b : List ℕ} → Accepted img text a → Accepted img text b → a ≡ b
 one-derivation = One.one-derivation
 
--- Room and allowance can cut a parse short, and do not change it.
+-- Two parses of one text that are not cut short end alike, whatever their rooms and allowances.
 pub one-answer : (img : List ℕ) → check img ≡ passed → (text tree tree′ : List ℕ) (allowance allowance′ : ℕ) → Own (parse img text tree allowance .parsed .code)
     → Own (parse img text tree′ allowance′ .parsed .code) → Alike (parse img text tree allowance) (parse img text tree′ allowance′)
 one-answer = One.one-answer
@@ -187,7 +187,7 @@ filtered-is-wrong = Wrong.filtered-is-wrong
 pub kept-is-wrong : {Fits : ℕ → Spot → Type 0} → RightLook tiny tinyText Fits kept → ⊥
 kept-is-wrong = Wrong.kept-is-wrong
 
--- Each leaf by the numbers of its record; and none begins where all that match are outranked.
+-- Each leaf by the numbers of its record; and none begins where all that match and are valid in its state are outranked.
 pub every-leaf : {img text words : List ℕ} {place : ℕ} → Covers img text words place → (i : ℕ) → i * recordWords < length words → wordOf words i 0 < firstNonterminal
     → LeafAt img text words i
 every-leaf = Records.every-leaf

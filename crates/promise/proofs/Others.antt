@@ -50,7 +50,7 @@ module _ (img : List ℕ) (good : shape img ≡ Good) where
       rule-good _ _ (each-at _ _ (each-at _ _ rows s ls) t lt)
 
   -- A valid terminal is not layout.
-  not-layout : (s t : ℕ) → s < states img → t < terminals img → (act img s t ≡ 0 → ⊥) → has (layout img) t ≡ 0
+  pub not-layout : (s t : ℕ) → s < states img → t < terminals img → (act img s t ≡ 0 → ⊥) → has (layout img) t ≡ 0
   unfolding lacks
   not-layout s t ls lt n = go (eqb (act img s t) 1) refl (eqb (has (layout img) t) 0) refl
     where

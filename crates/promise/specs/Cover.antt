@@ -2,10 +2,10 @@
 -- a terminal of a set is accepted or rejected on reading on: Matching.antt of the scanner.
 use mathlib.Core.Path.{_≡_}
 use mathlib.Core.List.{List, [], _++_}
-use Prim.Native.Nat.{ℕ, _+_, _<_}
+use Prim.Native.Nat.{ℕ, _+_, _<_, _≤_}
 use lib.ListN.{drop}
 use Rattle.sets.specs.Sets.{has, meet}
-use Rattle.pack.specs.Image.{states, groups, layout, dom, acc, groupSet, chosen, validSet}
+use Rattle.pack.specs.Image.{states, groups, layout, dom, acc, groupSet, chosen, validSet, endOfText}
 use Rattle.scan.specs.Matching.{Accepts, Matches, Last}
 use Rattle.parse.specs.Leaf.{part}
 use Rattle.parse.specs.Parse.{leafRecord, nodeRecord}
@@ -24,11 +24,15 @@ pub record NoMatch (img bytes : List ℕ) (v : ℕ) : Type 0 where
 abbrev pub Settled : List ℕ → List ℕ → ℕ → Type 0
 Settled img text place = NoMatch img (drop place text) (layout img)
 
--- A leaf of so many bytes from a start on, shifted in a state of the pack where layout before it is skipped to its end. The letter's words
--- stand at the lines that say them; q is the scan state where the leaf ends.
+-- The leaf that a state of the pack sees at a start, past all layout: its terminal and its bytes. The letter's words stand at the lines that
+-- say them; q is the scan state where the leaf ends.
 pub record RightLeaf (img text : List ℕ) (terminal start size state : ℕ) : Type 0 where
   pub is-state : state < states img
   pub after-layout : Settled img text start
+  -- It has bytes, and its terminal is a token: neither the end of the text nor layout.
+  pub some : 1 ≤ size
+  pub not-end : terminal ≡ endOfText → ⊥
+  pub not-layout : has (layout img) terminal ≡ 0
   pub q : ℕ
   -- "ends at the last byte where, reading on from its start, any terminal valid in its recorded state matches or is rejected"
   pub last : Last img (drop start text) (validSet img state) size q
@@ -40,11 +44,12 @@ pub record RightLeaf (img text : List ℕ) (terminal start size state : ℕ) : T
   -- "and is alone or chosen by a group", among the valid ones that are accepted there
   pub one : Chosen img (meet (acc img q) (validSet img state)) terminal
 
--- A piece of skipped layout: it ends at the last byte where, reading on, a layout terminal is accepted or rejected, and one is accepted
--- there.
+-- A piece of skipped layout: it has bytes, ends at the last one where, reading on, a layout terminal is accepted or rejected, and one is
+-- accepted there.
 pub record Blank (img text : List ℕ) (start size : ℕ) : Type 0 where
   pub q : ℕ
   pub last : Last img (drop start text) (layout img) size q
+  pub some : 1 ≤ size
   pub terminal : ℕ
   pub is-layout : has (layout img) terminal ≡ 1
   pub accepted : Accepts img (part text start size) terminal

@@ -33,7 +33,7 @@ pub record Refused (img text : List ℕ) (e : Ending) : Type 0 where
   pub why-none : e .parsed .code ≡ noTerminal → NoTerminal img text state (e .parsed .place)
   pub why-other : e .parsed .code ≡ unexpected → Unexpected img text state (e .parsed .place) (e .parsed .length) (e .parsed .terminal)
 
--- The codes of a parse by a pack that passes: 0; 6 for a text over the limit; 7, 8, 11, 12 and 13.
+-- The codes of a parse by a pack that passes: 0, 6, 7, 8, 11, 12 and 13.
 pub data Given : ℕ → Type 0 where
   accepted : Given done
   too-long : Given queryTooLong
@@ -71,7 +71,7 @@ pub data Own (code : ℕ) : Type 0 where
   none-found : code ≡ noTerminal → Own code
   other-found : code ≡ unexpected → Own code
 
--- Two endings that say the same.
+-- Two endings with the same code, place and records, and with 8 the same unexpected terminal.
 pub record Alike (e f : Ending) : Type 0 where
   pub code : e .parsed .code ≡ f .parsed .code
   pub place : e .parsed .place ≡ f .parsed .place

@@ -9,7 +9,8 @@ use Rattle.scan.specs.Matching.{Accepts, Matches, Last}
 use Rattle.parse.specs.Leaf.{part}
 use Rattle.promise.specs.Cover.{NoMatch, Settled}
 
--- Code 7 at a place before the end, past all layout, in a parse state: no terminal that is valid in the state matches, and no other.
+-- Code 7 at a place before the end, past all layout, in a parse state: there is no match (NoMatch) for the terminals that are valid in the
+-- state, and none for the others.
 pub record NoTerminal (img text : List ℕ) (state place : ℕ) : Type 0 where
   pub before-end : place < length text
   pub after-layout : Settled img text place
@@ -21,8 +22,9 @@ pub data Unexpected (img text : List ℕ) (state place : ℕ) : ℕ → ℕ → 
   -- The text ends where it may not end.
   at-end : length text ≤ place → act img state endOfText ≡ 0 → has (validSet img state) endOfText ≡ 0
       → Unexpected img text state place 0 endOfText
-  -- Past all layout no terminal that is valid in the state matches. Of all but the end of the text and layout some do, at the last
-  -- length at which they are accepted or rejected. This is the lowest of those that are accepted there, and it is not valid.
+  -- Past all layout there is no match for the terminals that are valid in the state. For all but the end of the text and layout there is
+  -- one, at the last length at which one of them is accepted or rejected. This is the lowest of those that are accepted there, and it
+  -- is not valid.
   instead : (size terminal q : ℕ) → place < length text → Settled img text place → NoMatch img (drop place text) (validSet img state)
       → Last img (drop place text) (allButEndAndLayout img) size q
       → has (validSet img state) terminal ≡ 0 → has (allButEndAndLayout img) terminal ≡ 1 → Accepts img (part text place size) terminal

@@ -1,5 +1,5 @@
--- Manual, section 7: what the parse asks of the function by which it looks for the next token. The promises hold for every such
--- function, whether or not it scans at each step. That of section 3.1 is one.
+-- Manual, section 7: what the parse asks of the function by which it looks for the next token. What `Promised` says holds for
+-- every such function, whether or not it scans at each step. That of section 3.1 is one.
 use mathlib.Core.Path.{_≡_}
 use mathlib.Core.Bool.{true}
 use mathlib.Core.List.{List}
