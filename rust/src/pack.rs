@@ -268,6 +268,11 @@ impl Sizes {
     }
 }
 
+/// Where a row of a table begins, if the table has so many.
+fn row(first: usize, words: usize, number: usize, count: usize) -> Option<usize> {
+    (number < count).then(|| first + words * number)
+}
+
 /// A pack of good shape. It need not have passed the check; [`Pack::check`] tells.
 ///
 /// ```
@@ -462,8 +467,13 @@ impl Pack {
 
     /// A production, if there is one of that number.
     pub fn production(&self, production: usize) -> Option<Production> {
-        let place = self.places.prod + PROD_WORDS * production;
-        (production < self.sizes.productions).then(|| Production {
+        let place = row(
+            self.places.prod,
+            PROD_WORDS,
+            production,
+            self.sizes.productions,
+        )?;
+        Some(Production {
             left: self.word(place),
             symbols: (0..self.word(place + 1))
                 .map(|i| Symbol::of(self.word(place + 2 + i)))
@@ -520,8 +530,8 @@ impl Pack {
 
     /// A range of bytes, if there is one of that number.
     pub fn range(&self, range: usize) -> Option<ByteRange> {
-        let place = self.places.class + RANGE_WORDS * range;
-        (range < self.sizes.ranges).then(|| ByteRange {
+        let place = row(self.places.class, RANGE_WORDS, range, self.sizes.ranges)?;
+        Some(ByteRange {
             low: self.word(place) as u8,
             high: self.word(place + 1) as u8,
             class: self.word(place + 2),
@@ -547,8 +557,13 @@ impl Pack {
 
     /// The sets of a scan state, if there is one of that number.
     pub fn scan_sets(&self, scan_state: usize) -> Option<ScanSets> {
-        let place = self.places.scan + SCAN_WORDS * scan_state;
-        (scan_state < self.sizes.scan_states).then(|| ScanSets {
+        let place = row(
+            self.places.scan,
+            SCAN_WORDS,
+            scan_state,
+            self.sizes.scan_states,
+        )?;
+        Some(ScanSets {
             accepted: self.set(place),
             rejected: self.set(place + SET_WORDS),
             possible: self.set(place + 2 * SET_WORDS),
@@ -557,8 +572,8 @@ impl Pack {
 
     /// A group, if there is one of that number.
     pub fn group(&self, group: usize) -> Option<Group> {
-        let place = self.places.group + GROUP_WORDS * group;
-        (group < self.sizes.groups).then(|| Group {
+        let place = row(self.places.group, GROUP_WORDS, group, self.sizes.groups)?;
+        Some(Group {
             terminals: self.set(place),
             chosen: self.word(place + SET_WORDS),
         })
