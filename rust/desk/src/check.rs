@@ -145,18 +145,21 @@ impl Checker<'_> {
         let mut states = BTreeSet::from([state]);
         for (back, &due) in found.symbols.iter().rev().enumerate() {
             let mut before = BTreeSet::new();
-            let way = format!("{start}. {} back", count(back, "step"));
+            let there = match back {
+                0 => format!("{start}. On top"),
+                _ => format!("{start}. {} back", count(back, "step")),
+            };
             for &state in &states {
                 if state == 0 {
                     return format!(
-                        "{way} the stack may be at its first state, and {} is still due.",
+                        "{there} may stand the first state of the stack, and {} is still due.",
                         self.names.symbol(due)
                     );
                 }
                 let edges = self.pack.edges_into(state);
                 if let Some(&(from, other)) = edges.iter().find(|&&(_, symbol)| symbol != due) {
                     return format!(
-                        "{way} stands state {state}, reached by {} from state {from}, and not by {}.",
+                        "{there} may stand state {state}, reached by {} from state {from}, and not by {}.",
                         self.names.symbol(other),
                         self.names.symbol(due)
                     );

@@ -13,6 +13,13 @@ use crate::names::Names;
 /// The most bytes of a file of names that are read.
 const NAMES_LIMIT: usize = 1 << 20;
 
+/// What is wrong with a file or a stream, without the number that the system has for it.
+pub fn wrong(name: impl std::fmt::Display, wrong: io::Error) -> String {
+    let words = wrong.to_string();
+    let plain = words.split(" (os error").next().unwrap_or(&words);
+    format!("{name}: {plain}")
+}
+
 /// One byte more than may be is enough to see that it is too many, so an endless input ends too.
 fn read_front(from: impl Read, limit: usize) -> io::Result<Vec<u8>> {
     let mut bytes = Vec::new();
@@ -22,7 +29,7 @@ fn read_front(from: impl Read, limit: usize) -> io::Result<Vec<u8>> {
 
 fn read_file(path: &Path, limit: usize) -> Result<Vec<u8>, String> {
     let read = File::open(path).and_then(|file| read_front(file, limit));
-    read.map_err(|wrong| format!("{}: {wrong}", path.display()))
+    read.map_err(|error| wrong(path.display(), error))
 }
 
 /// The pack's text, and the pack or its refusal.
@@ -70,5 +77,5 @@ pub fn query(args: &Args) -> Result<Vec<u8>, String> {
             "desk: the query comes from standard input; Ctrl-D ends it"
         );
     }
-    read_front(stdin.lock(), LONGEST_TEXT).map_err(|wrong| format!("standard input: {wrong}"))
+    read_front(stdin.lock(), LONGEST_TEXT).map_err(|error| wrong("standard input", error))
 }

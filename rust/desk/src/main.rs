@@ -102,7 +102,7 @@ fn draw(args: &Args, pack: &Pack, names: &names::Names, query: &[u8]) -> Result<
     let picture = draw::picture(records, names);
     let printed = match &args.output {
         Some(path) if path.as_os_str() != "-" => {
-            fs::write(path, picture).map_err(|wrong| format!("{}: {wrong}", path.display()))?;
+            fs::write(path, picture).map_err(|error| input::wrong(path.display(), error))?;
             String::new()
         }
         _ => picture,
@@ -147,8 +147,8 @@ fn run(args: &Args) -> Result<Outcome, String> {
 fn put(text: &str) -> Result<(), String> {
     let mut out = io::stdout().lock();
     match out.write_all(text.as_bytes()).and_then(|()| out.flush()) {
-        Err(wrong) if wrong.kind() != io::ErrorKind::BrokenPipe => {
-            Err(format!("standard output: {wrong}"))
+        Err(error) if error.kind() != io::ErrorKind::BrokenPipe => {
+            Err(input::wrong("standard output", error))
         }
         _ => Ok(()),
     }

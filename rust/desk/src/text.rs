@@ -146,14 +146,23 @@ pub fn excerpt(text: &[u8], place: usize, length: usize, paint: Paint) -> String
     let margin = " ".repeat(number.len());
     let blanks = " ".repeat(left_columns + usize::from(left_cut));
     let carets = "^".repeat(under_columns.max(1));
-    format!(
-        "  {} {before}{left}{}{}{behind}\n  {} {blanks}{}\n",
-        paint.dim(&format!("{number} |")),
-        paint.bold(&under.concat()),
-        right.concat(),
-        paint.dim(&format!("{margin} |")),
-        paint.red(&carets),
-    )
+    let shown = [
+        before,
+        &left,
+        &paint.bold(&under.concat()),
+        &right.concat(),
+        behind,
+    ]
+    .concat();
+    let lines = [
+        format!("  {} {shown}", paint.dim(&format!("{number} |"))),
+        format!(
+            "  {} {blanks}{}",
+            paint.dim(&format!("{margin} |")),
+            paint.red(&carets)
+        ),
+    ];
+    lines.map(|line| format!("{}\n", line.trim_end())).concat()
 }
 
 /// As many cells from the front as fit, their columns, and whether some are left out.

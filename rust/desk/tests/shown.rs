@@ -263,7 +263,7 @@ fn packs_that_fail() {
         &["check"],
     );
     changed("fails-k4", "act=0,0,8,0", "act=0,0,2,0", &["check"]);
-    changed("fails-k4-symbols", "act=0,0,4,0", "act=0,6,4,0", &["check"]);
+    changed("fails-k4-symbols", "act=0,0,8,0", "act=0,0,6,0", &["check"]);
     changed("fails-k5-goto", "goto=5", "goto=0", &["check"]);
     changed(
         "fails-k5-symbol",
