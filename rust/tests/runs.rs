@@ -205,10 +205,7 @@ fn the_tables_are_those_of_the_second_program() {
         let ours = pack(name);
         let theirs = second::image::Pack::new(ours.image());
         let sizes = ours.sizes();
-        assert_eq!(
-            sizes.numbers(),
-            theirs.sizes.to_words().map(|size| usize::from(size))
-        );
+        assert_eq!(sizes.numbers(), theirs.sizes.to_words().map(usize::from));
         assert_eq!(ours.layout().bits(), theirs.layout());
         let classes = theirs.classes();
         for byte in 0..=255u8 {

@@ -250,11 +250,9 @@ fn stuck(pack: &Pack, names: &Names, text: &[u8], place: usize, state: Option<us
         let wanted = pack.valid(state) - Terminals::one(0);
         let scanned = pack.scan(text, place, wanted, u32::MAX).ok();
         scanned.and_then(|scanned| scanned.found).and_then(|found| {
-            let groups = (0..pack.sizes().groups).filter_map(|group| pack.group(group));
-            let chosen = groups
-                .filter(|group| group.terminals == found.terminals)
-                .map(|group| group.chosen);
-            chosen.last().or(found.terminals.lowest())
+            let mut groups = (0..pack.sizes().groups).filter_map(|group| pack.group(group));
+            let group = groups.find(|group| group.terminals == found.terminals);
+            group.map(|group| group.chosen).or(found.terminals.lowest())
         })
     };
     match terminal.map(|terminal| pack.action(state, terminal)) {

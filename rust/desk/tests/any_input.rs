@@ -3,8 +3,9 @@
 mod run;
 
 use std::fs;
+use std::path::Path;
 
-use run::{desk, desk_in, folder, packs, top};
+use run::{desk, desk_in, folder, packs};
 use second::cases::Case;
 use second::gen::mix::{Kinds, Mix};
 use second::shape;
@@ -185,7 +186,7 @@ fn a_list_as_long_as_a_query_can_be() {
 
 #[test]
 fn an_endless_input_ends() {
-    if top().join("/dev/zero").exists() {
+    if Path::new("/dev/zero").exists() {
         let query = desk(&["read", "packs/small.pack", "--file", "/dev/zero"], b"");
         assert!(query.out.contains("(code 6)"));
         let pack = desk(&["check", "/dev/zero"], b"");

@@ -27,12 +27,17 @@ fn page(words: &[&str], run: &Run) -> String {
     parts.concat()
 }
 
+/// Whether what is printed now is to be stored.
+fn writes() -> bool {
+    std::env::var_os("DESK_SHOWN").is_some_and(|wanted| wanted == "write")
+}
+
 /// A page is as it is stored.
 fn stored(name: &str, page: &str) {
     let stored = Path::new(env!("CARGO_MANIFEST_DIR"))
         .join("tests/shown")
         .join(name);
-    if std::env::var_os("DESK_SHOWN").is_some_and(|wanted| wanted == "write") {
+    if writes() {
         fs::write(&stored, page).expect("the page is stored");
     }
     let expected = fs::read_to_string(&stored).unwrap_or_default();
@@ -200,6 +205,44 @@ fn pictures() {
         "draw-empty-node",
         &["draw", "packs/profile.pack", "total rate of send"],
     );
+}
+
+/// The picture that the README shows.
+#[test]
+fn the_picture_of_the_readme() {
+    let words = [
+        "draw",
+        "packs/profile.pack",
+        "top 10 of malloc group by core",
+    ];
+    let path = run::top().join("docs/tree.svg");
+    let drawn = desk(&words, b"");
+    if writes() {
+        fs::write(&path, &drawn.out).expect("the picture is stored");
+    }
+    assert_eq!(drawn.out, fs::read_to_string(path).unwrap_or_default());
+}
+
+/// The runs of desk that the README shows: `$ desk`, and the lines up to the next run, as they are printed.
+#[test]
+fn the_runs_of_the_readme() {
+    let readme = fs::read_to_string(run::top().join("README.md")).expect("the README is there");
+    let indented: Vec<&str> = readme.split("\n    $ desk read ").skip(1).collect();
+    assert!(indented.len() >= 2);
+    for run in indented {
+        let (command, rest) = run.split_once('\n').expect("something is printed");
+        let (pack, query) = command.split_once(" '").expect("a pack and a query");
+        let printed = desk(&["read", pack, query.trim_end_matches('\'')], b"").out;
+        let shown: Vec<&str> = rest
+            .lines()
+            .map(|line| line.strip_prefix("    ").unwrap_or(line))
+            .collect();
+        let shown = shown.join("\n");
+        assert!(
+            shown.starts_with(printed.trim_end()),
+            "{command}: the README shows\n{shown}\nand desk prints\n{printed}"
+        );
+    }
 }
 
 #[test]
