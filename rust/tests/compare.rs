@@ -108,12 +108,12 @@ fn same(kinds: Kinds, cases: usize, seed: u64) {
 
 #[test]
 fn every_function_gives_the_answers_of_the_second_program() {
-    same(Kinds::ALL, 20_000, 16);
+    same(Kinds::ALL, 50_000, 16);
 }
 
 #[test]
 fn the_parse_gives_the_answers_of_the_second_program() {
-    same(Kinds::PARSE, 20_000, 17);
+    same(Kinds::PARSE, 50_000, 17);
 }
 
 #[test]

@@ -251,3 +251,78 @@ fn the_tables_are_those_of_the_second_program() {
         }
     }
 }
+
+#[test]
+fn every_refusal_says_its_code_in_words() {
+    let work = Work {
+        records: 3,
+        moves: 7,
+    };
+    let failures = [
+        Failure::K1 { scan_state: 2 },
+        Failure::K2 { scan_state: 2 },
+        Failure::K3 {
+            state: 4,
+            scan_state: 2,
+        },
+        Failure::K4 { state: 4 },
+        Failure::K5 {
+            state: 4,
+            production: 1,
+        },
+        Failure::K6 { state: 4 },
+    ];
+    for (number, failure) in failures.iter().enumerate() {
+        assert_eq!(failure.condition() as usize, number + 1);
+        assert!(failure
+            .to_string()
+            .starts_with(&format!("K{} fails for ", number + 1)));
+    }
+    let place = 9;
+    let refusals = [
+        Refused::Form { place },
+        Refused::PackTooLong,
+        Refused::Room { needed: 12 },
+        Refused::Shape { word: 61 },
+        Refused::Check(failures[4]),
+        Refused::QueryTooLong,
+        Refused::NoTerminal { place, work },
+        Refused::Unexpected {
+            place,
+            length: 5,
+            terminal: 6,
+            work,
+        },
+        Refused::Several {
+            place,
+            length: 5,
+            work,
+        },
+        Refused::Stuck { place, work },
+        Refused::TreeFull { place, work },
+        Refused::StackFull { place, work },
+        Refused::Allowance { place, work },
+    ];
+    for (number, refused) in refusals.iter().enumerate() {
+        let code = number + 1;
+        assert_eq!(refused.code() as usize, code);
+        let words = refused.to_string();
+        assert!(words.ends_with(&format!(" (code {code})")), "{words}");
+        let first = refused.values()[0];
+        let named = first == 0 || code == 5 || words.contains(&first.to_string());
+        assert!(named, "{words} does not say {first}");
+        assert_eq!(refused.work().is_some(), code >= 7);
+        assert_eq!(refused.place(), (code >= 7).then_some(place));
+        let _: &dyn std::error::Error = refused;
+    }
+    let end = Refused::Unexpected {
+        place,
+        length: 0,
+        terminal: 0,
+        work,
+    };
+    assert_eq!(
+        end.to_string(),
+        "the query ends too early, at byte 9 (code 8)"
+    );
+}

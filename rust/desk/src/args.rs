@@ -22,7 +22,7 @@ is all that stands on standard input, to the last byte.
   --scan N          show: a scan state
   -o FILE           draw: where the picture goes (without it standard output)
   --names FILE      other names than those beside the pack
-  --json            for programs (read, check, show)
+  --json            for programs (read, check, show); bytes that are no UTF-8 are a list of numbers there
   --color WHEN      auto (only on a terminal), always or never
   --help, --version
 

@@ -14,7 +14,7 @@ pub struct Explained {
     /// The bytes that are meant: place and length.
     mark: Option<(usize, usize)>,
     found: String,
-    allowed: Option<String>,
+    allowed: String,
     hint: Option<String>,
 }
 
@@ -26,7 +26,7 @@ impl Explained {
         if let Some((place, length)) = self.mark {
             lines.push_str(&format!("\n{}\n", excerpt(text, place, length, paint)));
         }
-        let more = [Some(&self.found), self.allowed.as_ref(), self.hint.as_ref()];
+        let more = [Some(&self.found), Some(&self.allowed), self.hint.as_ref()];
         for sentence in more.into_iter().flatten() {
             lines.push_str(&format!("{sentence}\n"));
         }
@@ -35,7 +35,6 @@ impl Explained {
 
     /// For programs: the same sentences, where they are.
     pub fn fields(&self, text: &[u8]) -> Vec<(&'static str, Json)> {
-        let sentence = |words: &Option<String>| words.as_ref().map_or(Json::Null, Json::text);
         let (line, column) = match self.mark {
             Some((place, _)) => (
                 Json::number(line_at(text, place).0),
@@ -48,15 +47,9 @@ impl Explained {
             ("line", line),
             ("column", column),
             ("found", Json::text(&self.found)),
-            ("allowed", sentence(&self.allowed)),
-            ("hint", sentence(&self.hint)),
+            ("allowed", Json::text(&self.allowed)),
+            ("hint", self.hint.as_ref().map_or(Json::Null, Json::text)),
         ]
-    }
-}
-
-impl From<&String> for Json {
-    fn from(text: &String) -> Json {
-        Json::text(text.clone())
     }
 }
 
@@ -99,7 +92,7 @@ pub fn of_query(pack: &Pack, names: &Names, records: Records, refused: &Refused)
         title,
         mark: Some(mark),
         found,
-        allowed: Some(may_come.clone()),
+        allowed: may_come.clone(),
         hint: None,
     };
     let passes = "A pack that passes the check never comes to this: `desk check` tells what is wrong with this one.";
@@ -233,7 +226,7 @@ pub fn of_query(pack: &Pack, names: &Names, records: Records, refused: &Refused)
             title: "the query is too long",
             mark: None,
             found: "Found more than 65535 bytes.".to_string(),
-            allowed: Some("Allowed are 65535.".to_string()),
+            allowed: "Allowed are 65535.".to_string(),
             hint: None,
         },
     }
@@ -474,7 +467,7 @@ pub fn of_pack(names: &Names, text: &[u8], refused: &Refused) -> Explained {
                 "the pack text is not of the form",
                 Some((place, bytes.len())),
                 format!("Found {found} at line {line} (byte {place})."),
-                Some(due(text, line - 1)),
+                due(text, line - 1),
             )
         }
         Refused::Shape { word: at } => {
@@ -490,14 +483,14 @@ pub fn of_pack(names: &Names, text: &[u8], refused: &Refused) -> Explained {
                 "the shape is wrong",
                 mark,
                 format!("Found {} as {what}, word {at} of the image.", word(value)),
-                Some(format!("Allowed there: {rule}.")),
+                format!("Allowed there: {rule}."),
             )
         }
         _ => explained(
             "the pack text is too long",
             None,
             "Found more than 65535 bytes.".to_string(),
-            Some("Allowed are 65535.".to_string()),
+            "Allowed are 65535.".to_string(),
         ),
     }
 }
