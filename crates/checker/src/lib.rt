@@ -6,7 +6,7 @@ ghost use Rattle.pack.specs.Laid.{Laid};
 ghost use Rattle.numbers.specs.declared.Verdict.the-variants.{Good};
 ghost use Rattle.shape.specs.Shape.{shape};
 ghost use Rattle.conditions.specs.Check.{c4, c5, c6, plain, passed, report, firstFailing, check};
-ghost use Rattle.edges.specs.Tables.{Sources, Carried, Reducers, Goers};
+ghost use Rattle.edges.specs.Tables.{Sources, Carried, Goers};
 use conditions::Checked;
 use conditions::Finding;
 
@@ -31,24 +31,18 @@ fn answer(number: usize, f: Finding) -> Checked
 }
 
 // K4 to K6, over the edges.
-fn walk_edges(
-    img: &[u16],
-    from: &[u64; 256],
-    on: &[u64; 256],
-    by: &[u64; 256],
-    goes: &[u64; 256],
-) -> Checked
+fn walk_edges(img: &[u16], from: &[u64; 256], on: &[u64; 256], goes: &[u64; 256]) -> Checked
     requires { ⌜ Laid (now img) ⌝ }
     requires { ⌜ shape (now img) ≡ Good ⌝ }
     requires { ⌜ (Sources (now img) (states (now img)) (now from)) × (Carried (now img) (states (now img)) (now on)) ⌝ }
-    requires { ⌜ (Reducers (now img) (states (now img)) (now by)) × (Goers (now img) (states (now img)) (now goes)) ⌝ }
+    requires { ⌜ Goers (now img) (states (now img)) (now goes) ⌝ }
     ensures { λ r. ⌜ r ≡ firstFailing (now (img .entry)) (c4 ∷ c5 ∷ c6 ∷ []) ⌝ }
 {
     let f4 = parsecheck::find_k4(img, on);
     if conditions::fails(f4) {
         return answer(4, f4);
     }
-    let f5 = parsecheck::find_k5(img, from, on, by, goes);
+    let f5 = parsecheck::find_k5(img, from, on, goes);
     if conditions::fails(f5) {
         return answer(5, f5);
     }
@@ -63,10 +57,9 @@ fn parser_conditions(img: &[u16]) -> Checked
 {
     let mut from = [0u64; 256];
     let mut on = [0u64; 256];
-    let mut by = [0u64; 256];
     let mut goes = [0u64; 256];
-    edges::fill(img, &mut from, &mut on, &mut by, &mut goes);
-    walk_edges(img, &from, &on, &by, &goes)
+    edges::fill(img, &mut from, &mut on, &mut goes);
+    walk_edges(img, &from, &on, &goes)
 }
 
 // K1 to K6.

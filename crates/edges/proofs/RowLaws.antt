@@ -11,13 +11,13 @@ use lib.ListN.{length, getD, set, length-set, replicate, getD-replicate}
 use lib.Seq.{getD-set-same, getD-set-other}
 use lib.Bits.{bitAnd, bitOr}
 use lib.Arith.{lt-of-le-ne}
-use lib.Count.{trailing-le}
+use lib.Pow.{shr-shr, shr-le}
 use borrow.Author.Tests.{eq-eqb, ne-eqb, lt-ltb, le-ltb, eqb-true, eqb-false, ltb-true, ltb-false}
 use Rattle.sets.specs.Sets.{has, member, subset, lowest}
-use Rattle.sets.proofs.Laws.{has-lt, has-none, has-above, has-zero, has-suc, has-or, lowest-lt, lowest-in}
+use Rattle.sets.proofs.Laws.{has-lt, has-none, has-above, has-zero, has-suc, has-or, lowest-lt, lowest-in, lowest-below}
 use Rattle.conditions.specs.Tests.{allBelow, someBelow, implies}
-use Rattle.conditions.proofs.TestLaws.{alike, false-true, not-true, implies-gives, implies-all, all-each, all-true, member-has, has-member, subset-is}
-use Rattle.edges.specs.Rows.{bitAt, either, Put, PutOne, PutEach, Half, allIn, Lowest, First, joined, Made}
+use Rattle.conditions.proofs.TestLaws.{alike, false-true, not-true, implies-gives, implies-all, all-each, all-true, some-one, some-true, member-has, has-member, subset-is}
+use Rattle.edges.specs.Rows.{bitAt, either, Put, PutOne, PutEach, Half, Whole, allIn, Next, joined, Made}
 
 -- The set of one number.
 has-single : (b : ℕ) → has (2 ^ b) b ≡ 1
@@ -146,6 +146,20 @@ unfolding someBelow either
 some-same zero f g h = refl
 some-same (suc n) f g h = ap₂ (λ (a b : Bool). either a b) (some-same n f g (λ i l. h i (omega arith))) (h n (omega arith))
 
+-- What is passed over is not there: some number below a passes where some number below b does, if none between them does.
+pub some-past : (a b : ℕ) (f : ℕ → Bool) → a ≤ b → ((t : ℕ) → a ≤ t → t < b → f t ≡ false) → someBelow a f ≡ someBelow b f
+some-past a b f l none = alike (someBelow a f) (someBelow b f) forth back
+  where
+    forth : someBelow a f ≡ true → someBelow b f ≡ true
+    forth e = let r = some-one a f e in some-true b f (r .0) (omega (arith, r .1)) (r .2)
+
+    back : someBelow b f ≡ true → someBelow a f ≡ true
+    back e = let r = some-one b f e in go (r .0) (r .1) (r .2) (ltb (r .0) a) refl
+      where
+        go : (t : ℕ) → t < b → f t ≡ true → (x : Bool) → ltb t a ≡ x → someBelow a f ≡ true
+        go t m h true g = some-true a f t (ltb-true t a g) h
+        go t m h false g = false-true (sym (none t (ltb-false t a g) m) ∙ h)
+
 -- A number below x + 1 that is not x is below x.
 pub below-other : (y x : ℕ) → eqb y x ≡ false → ltb y (x + 1) ≡ ltb y x
 below-other y x f = go (ltb y x) refl
@@ -187,6 +201,22 @@ module _ (to : ℕ → ℕ) {row mid after : List ℕ} {x : ℕ} where
           let z : y ≡ x = eqb-true y x f in
           rw (z, le-ltb x x (omega arith), lt-ltb x (x + 1) (omega arith), eq-eqb x x refl) (last a (eqb (to x) (1 + v)))
       go v y a false f = rw (f, below-other y x f) (other a (ltb y x) (eqb (to y) (1 + v)) (eqb (to x) (1 + v)))
+
+-- Numbers that are put nowhere are passed over.
+module _ (to : ℕ → ℕ) {x z : ℕ} (l : x ≤ z) (none : (t : ℕ) → x ≤ t → t < z → to t ≡ 0) where
+  nowhere : (v t : ℕ) → x ≤ t → t < z → eqb (to t) (1 + v) ≡ false
+  nowhere v t a b = ne-eqb (to t) (1 + v) (λ e. omega (arith, none t a b))
+
+  pub one-past : {s : ℕ} {row mid : List ℕ} → PutOne to s x row mid → PutOne to s z row mid
+  one-past {s} {row} p = record { size = p .size; each = λ v u lv lu. p .each v u lv lu ∙ ap (λ (b : Bool). either (bitAt row v u) (eqb u s && b)) (some-past x z (λ y. eqb (to y) (1 + v)) l (nowhere v)) }
+
+  pub each-past : {row mid : List ℕ} → PutEach to x row mid → PutEach to z row mid
+  each-past {row} p = record { size = p .size; each = λ v y lv ly. p .each v y lv ly ∙ ap (λ (b : Bool). either (bitAt row v y) b) (go v y (ltb y x) refl (ltb y z) refl) }
+    where
+      go : (v y : ℕ) (a : Bool) → ltb y x ≡ a → (b : Bool) → ltb y z ≡ b → (ltb y x && eqb (to y) (1 + v)) ≡ (ltb y z && eqb (to y) (1 + v))
+      go v y true e b f = rw (e, lt-ltb y z (omega (arith, ltb-true y x e)))
+      go v y false e true f = rw (e, f, nowhere v y (ltb-false y x e) (ltb-true y z f))
+      go v y false e false f = rw (e, f)
 
 pub one-none : (to : ℕ → ℕ) (s : ℕ) (row : List ℕ) → PutOne to s 0 row row
 unfolding someBelow
@@ -277,58 +307,133 @@ module _ (row : List ℕ) (v : ℕ) (test : ℕ → Bool) where
   all-in {m₀} {m₁} h₀ h₁ e f g =
       g ∙ alike (allBelow 64 (inner 1 m₁)) (allIn row v test) (λ a. both-halves h₀ h₁ (first-half m₀ ∙ sym e ∙ f) a) (λ a. to-half h₁ a (omega arith))
 
--- The least number.
-pub lowest-is : (set : ℕ) → set < 2 ^ 64 → Lowest set (lowest set)
-unfolding member
-lowest-is set l = record {
-  most = trailing-le 64 set;
-  there = λ m. eq-eqb (has set (lowest set)) 1 (lowest-in 64 set m);
-  none = λ e t lt. none e t (eqb set 0) refl;
-}
-  where
-    none : lowest set ≡ 64 → (t : ℕ) (b : Bool) → eqb set 0 ≡ b → eqb (has set t) 1 ≡ false
-    none e t true f = let z : set ≡ 0 = eqb-true set 0 f in rw (z, has-none t)
-    none e t false f = absurd (omega (arith, lowest-lt 64 set l (eqb-false set 0 f)))
+-- The next number of a word: what is shifted away is below it.
+module _ (word b : ℕ) where
+  shifted : (t : ℕ) → b ≤ t → member word t ≡ member (word / 2 ^ b) (t - b)
+  unfolding member has
+  shifted t l = let z : b + (t - b) ≡ t = omega arith in rw (shr-shr word b (t - b), z)
 
-pub first-low : (row : List ℕ) (v a : ℕ) → Lowest (getD row (2 * v) 0) a → a < 64 → First row v a
-first-low row v a w l = record {
-  most = omega arith;
-  there = λ m. low-bit row v a l ∙ w .there l;
-  none = λ e. absurd (omega arith);
-}
+  pub next-none : b ≤ 64 → word / 2 ^ b ≡ 0 → Next (member word) 64 b 64
+  unfolding member
+  next-none l e = record { from = l; most = omega arith; there = λ m. absurd (omega arith); none = λ t lt m. shifted t lt ∙ rw (e, has-none (t - b)) }
 
-pub first-high : (row : List ℕ) (v a b : ℕ) → Lowest (getD row (2 * v) 0) a → 64 ≤ a → Lowest (getD row (2 * v + 1) 0) b → First row v (64 + b)
-first-high row v a b w l x = record {
-  most = omega (arith, x .most);
-  there = λ m. bit-half row v 1 b (omega arith) ∙ x .there (omega arith);
-  none = λ e y ly. go e y ly (ltb y 64) refl;
-}
-  where
-    go : 64 + b ≡ 128 → (y : ℕ) → y < 128 → (c : Bool) → ltb y 64 ≡ c → bitAt row v y ≡ false
-    go e y ly true f =
-        let lt = ltb-true y 64 f in
-        low-bit row v y lt ∙ w .none (omega (arith, w .most)) y lt
-    go e y ly false f =
-        let ge = ltb-false y 64 f in
-        let z : 64 * 1 + (y - 64) ≡ y = omega arith in
-        let b : bitAt row v (64 * 1 + (y - 64)) ≡ false = bit-half row v 1 (y - 64) (omega arith) ∙ x .none (omega arith) (y - 64) (omega arith) in
-        rw z at b
-
--- Sets joined, one after the other.
-module _ (row of : List ℕ) (i h : ℕ) where
-  pub join-none : Half (joined row of i 0) h 0
-  unfolding member joined someBelow
-  join-none = record { each = λ t l. rw (has-none t) }
-
-  pub join-more : (v : ℕ) {word part : ℕ} → Half (joined row of i v) h word → (bitAt of i v ≡ true → part ≡ getD row (2 * v + h) 0) → (bitAt of i v ≡ false → part ≡ 0)
-      → Half (joined row of i (v + 1)) h (bitOr word part)
-  unfolding joined member
-  join-more v {word} {part} g on off = record { each = λ t l. member-or word part t ∙ rw (g .each t l, some-more v (λ w. bitAt of i w && bitAt row w (64 * h + t))) (go t l (bitAt of i v) refl) }
+  pub next-there : {low : ℕ} → word < 2 ^ 64 → b < 64 → (word / 2 ^ b ≡ 0 → ⊥) → low ≡ lowest (word / 2 ^ b) → Next (member word) 64 b (b + low)
+  next-there {low} fits lb some e = record {
+    from = omega arith;
+    most = omega (arith, few);
+    there = λ m. here;
+    none = λ t l m. shifted t l ∙ not-true _ (λ f. absurd (omega (arith, member-has (word / 2 ^ b) (t - b) f, lowest-below 64 (word / 2 ^ b) (t - b) (omega arith))));
+  }
     where
-      go : (t : ℕ) → t < 64 → (b : Bool) → bitAt of i v ≡ b
-          → either (someBelow v (λ w. bitAt of i w && bitAt row w (64 * h + t))) (member part t) ≡ either (someBelow v (λ w. bitAt of i w && bitAt row w (64 * h + t))) (bitAt of i v && bitAt row v (64 * h + t))
-      go t l true e = rw (e, on e, bit-half row v h t l)
-      go t l false e = rw (e, off e, has-none t)
+      rest-fits : word / 2 ^ b < 2 ^ 64
+      rest-fits = omega (arith, shr-le word b)
+
+      below : lowest (word / 2 ^ b) < 64
+      below = lowest-lt 64 (word / 2 ^ b) rest-fits some
+
+      here : member word (b + low) ≡ true
+      here =
+          let z : b + low - b ≡ lowest (word / 2 ^ b) = omega arith in
+          shifted (b + low) (omega arith) ∙ rw z (has-member (word / 2 ^ b) (lowest (word / 2 ^ b)) (lowest-in 64 (word / 2 ^ b) below))
+
+      few : b + low < 64
+      few = go (ltb (b + low) 64) refl
+        where
+          go : (x : Bool) → ltb (b + low) 64 ≡ x → b + low < 64
+          go true f = ltb-true _ _ f
+          go false f = absurd (omega (arith, member-has word (b + low) here, has-above (b + low) fits (ltb-false _ _ f)))
+
+pub next-past : (word b : ℕ) → 64 ≤ b → b ≤ 64 → Next (member word) 64 b 64
+next-past word b l m = record { from = m; most = omega arith; there = λ n. absurd (omega arith); none = λ t lt n. absurd (omega arith) }
+
+-- The next number of a set of two words.
+module _ {test : ℕ → Bool} {low high : ℕ} (w : Whole test low high) where
+  below-half : (t : ℕ) → t < 64 → test t ≡ member low t
+  below-half t l = let z : 64 * 0 + t ≡ t = omega arith in rw z at (sym (w .low-half .each t l))
+
+  above-half : (t : ℕ) → 64 ≤ t → t < 128 → test t ≡ member high (t - 64)
+  above-half t l m = let z : 64 * 1 + (t - 64) ≡ t = omega arith in rw z at (sym (w .high-half .each (t - 64) (omega arith)))
+
+  pub next-low : {b a : ℕ} → Next (member low) 64 b a → a < 64 → Next test 128 b a
+  next-low {b} {a} n l = record { from = n .from; most = omega arith; there = λ m. below-half a l ∙ n .there l; none = λ t lt m. below-half t (omega arith) ∙ n .none t lt m }
+
+  pub next-high : {b c a : ℕ} → c ≤ 64 → b ≤ 64 + c → ((t : ℕ) → b ≤ t → t < 64 + c → test t ≡ false) → Next (member high) 64 c a → Next test 128 b (64 + a)
+  next-high {b} {c} {a} lc lb before n = record {
+    from = omega (arith, n .from);
+    most = omega (arith, n .most);
+    there = λ m. let z : 64 + a - 64 ≡ a = omega arith in above-half (64 + a) (omega arith) m ∙ rw z (n .there (omega arith));
+    none = λ t l m. go t l m (ltb t (64 + c)) refl;
+  }
+    where
+      go : (t : ℕ) → b ≤ t → t < 64 + a → (x : Bool) → ltb t (64 + c) ≡ x → test t ≡ false
+      go t l m true f = before t l (ltb-true _ _ f)
+      go t l m false f =
+          let k = ltb-false t (64 + c) f in
+          above-half t (omega arith) (omega (arith, n .most)) ∙ n .none (t - 64) (omega arith) (omega arith)
+
+  pub none-low : {b a : ℕ} → Next (member low) 64 b a → 64 ≤ a → (t : ℕ) → b ≤ t → t < 64 + 0 → test t ≡ false
+  none-low n l t lt m = below-half t (omega arith) ∙ n .none t lt (omega arith)
+
+-- A set of a row, whole.
+pub whole-of : (row : List ℕ) (v : ℕ) → Whole (bitAt row v) (getD row (2 * v) 0) (getD row (2 * v + 1) 0)
+whole-of row v = record { low-half = low-half-of row v; high-half = half-of row v 1 }
+
+-- Tests that ask the same of every number below 128; and two sets in one.
+half-same : {f g : ℕ → Bool} {h word : ℕ} → h < 2 → ((y : ℕ) → y < 128 → f y ≡ g y) → Half f h word → Half g h word
+half-same {h = h} l e k = record { each = λ t m. k .each t m ∙ e (64 * h + t) (omega arith) }
+
+half-or : {f g : ℕ → Bool} {h a b : ℕ} → Half f h a → Half g h b → Half (λ y. either (f y) (g y)) h (bitOr a b)
+half-or {a = a} {b = b} k m = record { each = λ t l. member-or a b t ∙ rw (k .each t l, m .each t l) }
+
+pub whole-same : {f g : ℕ → Bool} {low high : ℕ} → ((y : ℕ) → y < 128 → f y ≡ g y) → Whole f low high → Whole g low high
+whole-same e w = record { low-half = half-same (omega arith) e (w .low-half); high-half = half-same (omega arith) e (w .high-half) }
+
+pub whole-or : {f g : ℕ → Bool} {a b c d : ℕ} → Whole f a b → Whole g c d → Whole (λ y. either (f y) (g y)) (bitOr a c) (bitOr b d)
+whole-or w x = record { low-half = half-or (w .low-half) (x .low-half); high-half = half-or (w .high-half) (x .high-half) }
+
+pub whole-none : {f : ℕ → Bool} → ((y : ℕ) → f y ≡ false) → Whole f 0 0
+unfolding member
+whole-none {f} e = record { low-half = record { each = λ t l. rw (has-none t, e (64 * 0 + t)) }; high-half = record { each = λ t l. rw (has-none t, e (64 * 1 + t)) } }
+
+-- One number more in a set.
+module _ {test : ℕ → Bool} {low high : ℕ} (w : Whole test low high) where
+  pub with-none : (to : ℕ) → to ≡ 0 → Whole (λ y. either (test y) (eqb to (1 + y))) low high
+  unfolding either
+  with-none to e = whole-same (λ y l. rw (ne-eqb to (1 + y) (λ z. omega arith)) (go (test y))) w
+    where
+      go : (x : Bool) → x ≡ either x false
+      go true = refl
+      go false = refl
+
+  pub with-one : (to : ℕ) {a b : ℕ} → (to ≡ 0 → ⊥) → Half (λ y. eqb y (to - 1)) 0 a → Half (λ y. eqb y (to - 1)) 1 b
+      → Whole (λ y. either (test y) (eqb to (1 + y))) (bitOr low a) (bitOr high b)
+  with-one zero n k m = absurd (n refl)
+  with-one (suc p) n k m =
+      whole-same (λ y l. ap (λ (x : Bool). either (test y) x) (alike (eqb y (suc p - 1)) (eqb (suc p) (1 + y))
+      (λ e. eq-eqb (suc p) (1 + y) (omega (arith, eqb-true y (suc p - 1) e))) (λ e. eq-eqb y (suc p - 1) (omega (arith, eqb-true (suc p) (1 + y) e)))))
+      (whole-or w (record { low-half = k; high-half = m }))
+
+-- Sets joined, one after the other: those whose numbers are below v.
+module _ (row of : List ℕ) (i : ℕ) where
+  unfoldable pub joinedBelow : ℕ → ℕ → Bool
+  joinedBelow v y = someBelow v (λ w. bitAt of i w && bitAt row w y)
+
+  pub join-none : Whole (joinedBelow 0) 0 0
+  unfolding joinedBelow someBelow
+  join-none = whole-none (λ y. refl)
+
+  pub join-more : (v : ℕ) {low high : ℕ} → Whole (joinedBelow v) low high → bitAt of i v ≡ true
+      → Whole (joinedBelow (v + 1)) (bitOr low (getD row (2 * v) 0)) (bitOr high (getD row (2 * v + 1) 0))
+  unfolding joinedBelow
+  join-more v w e = whole-same (λ y l. sym (some-more v (λ u. bitAt of i u && bitAt row u y) ∙ rw e)) (whole-or w (whole-of row v))
+
+  pub join-past : {v u low high : ℕ} → Whole (joinedBelow v) low high → Next (bitAt of i) 128 v u → Whole (joinedBelow u) low high
+  unfolding joinedBelow
+  join-past {v} {u} w n = whole-same (λ y l. some-past v u (λ t. bitAt of i t && bitAt row t y) (n .from) (λ t a b. rw (n .none t a b))) w
+
+  pub join-all : {low high : ℕ} → Whole (joinedBelow 128) low high → Whole (joined row of i) low high
+  unfolding joinedBelow joined
+  join-all w = w
 
 -- A set made anew.
 pub made-is : (row : List ℕ) (i : ℕ) {test : ℕ → Bool} {low high : ℕ} → length row ≡ 256 → i < 128 → Half test 0 low → Half test 1 high

@@ -6,20 +6,20 @@ use Prim.Native.Nat.{ℕ, zero, suc, _+_, _*_, _-_, _/_, _%_, _<_, _≤_}
 use native.Mathlib.Omega.{arith}
 use lib.Dec.{eqb, leb, ltb}
 use lib.ListN.{replicate}
-use borrow.Author.Tests.{eq-eqb, ne-eqb, le-leb, lt-ltb, le-ltb, eqb-true, eqb-false, leb-true, ltb-true, ltb-false}
+use borrow.Author.Tests.{eq-eqb, ne-eqb, le-leb, lt-leb, lt-ltb, le-ltb, eqb-true, eqb-false, leb-true, ltb-true, ltb-false}
 use Rattle.numbers.specs.declared.Verdict.the-variants.{Good}
 use Rattle.pack.specs.Image.{terminals, nonterminals, states, firstNonterminal, act, goto}
 use Rattle.shape.specs.Shape.{shape}
 use Rattle.shape.proofs.Good.{good-laid}
-use Rattle.shape.proofs.GoodParser.{good-goto, good-shift, good-reduce}
+use Rattle.shape.proofs.GoodParser.{good-goto, good-shift}
 use Rattle.conditions.specs.Tests.{someBelow}
 use Rattle.conditions.specs.Edges.{symbols, shiftOf, edgeTo, isEdge, leads}
 use Rattle.conditions.specs.Conditions.{reduces}
 use Rattle.conditions.proofs.TestLaws.{alike, and-left, and-right, some-one, some-true}
 use Rattle.conditions.proofs.EdgeLaws.{shift-code}
-use Rattle.edges.specs.Rows.{either, PutOne, PutEach}
-use Rattle.edges.specs.Tables.{reduceOf, present, Sources, Carried, Reducers, Goers}
-use Rattle.edges.proofs.RowLaws.{some-more, some-same, below-other, empty-row}
+use Rattle.edges.specs.Rows.{either, PutOne, PutEach, Whole}
+use Rattle.edges.specs.Tables.{reduceOf, present, Sources, Carried, Goers}
+use Rattle.edges.proofs.RowLaws.{some-more, below-other, empty-row, whole-none, whole-same}
 
 -- What a code reduces by, and the nonterminal of a goto that is there.
 pub reduce-code : (code p : ℕ) → eqb (reduceOf code) (1 + p) ≡ eqb code (3 + 2 * p)
@@ -47,7 +47,38 @@ unfolding present
 present-within zero a l = omega arith
 present-within (suc c) a l = simp (present, ne-eqb (suc c) 0 (λ z. omega arith)) (omega arith)
 
--- Where an edge leads is within the states; what a code reduces by is within the productions.
+-- The edge on a symbol, by its cell: a shift, a goto, and none on a number between the terminals and the nonterminals.
+module _ (img : List ℕ) (s x : ℕ) where
+  pub edge-shift : x < terminals img → shiftOf (act img s x) ≡ edgeTo img s x
+  unfolding edgeTo
+  edge-shift l = simp (edgeTo, lt-ltb x (terminals img) l)
+
+  pub edge-goto : terminals img ≤ 64 → 64 ≤ x → x < symbols img → goto img s (x - 64) ≡ edgeTo img s x
+  unfolding edgeTo
+  edge-goto few l m = simp (edgeTo, le-ltb x (terminals img) (omega arith), le-leb 64 x l, lt-ltb x (symbols img) m, _&&_)
+
+  pub edge-none : terminals img ≤ x → x < 64 → edgeTo img s x ≡ 0
+  unfolding edgeTo
+  edge-none l m = simp (edgeTo, le-ltb x (terminals img) l, lt-leb 64 x m, _&&_)
+
+-- The productions that row s reduces by: in the first t columns.
+module _ (img : List ℕ) (s : ℕ) where
+  unfoldable pub reducesBelow : ℕ → ℕ → Bool
+  reducesBelow t p = someBelow t (λ x. eqb (act img s x) (3 + 2 * p))
+
+  pub reduces-none : Whole (reducesBelow 0) 0 0
+  unfolding reducesBelow someBelow
+  reduces-none = whole-none (λ y. refl)
+
+  pub reduces-more : (t : ℕ) {code to low high : ℕ} → code ≡ act img s t → to ≡ reduceOf code → Whole (λ y. either (reducesBelow t y) (eqb to (1 + y))) low high → Whole (reducesBelow (t + 1)) low high
+  unfolding reducesBelow
+  reduces-more t e f w = whole-same (λ y l. rw (f, e, reduce-code (act img s t) y) (sym (some-more t (λ x. eqb (act img s x) (3 + 2 * y))))) w
+
+  pub reduces-all : {low high : ℕ} → Whole (reducesBelow (terminals img)) low high → Whole (reduces img s) low high
+  unfolding reducesBelow reduces
+  reduces-all w = w
+
+-- Where an edge leads is within the states.
 module _ (img : List ℕ) (good : shape img ≡ Good) where
   pub edge-within : (s x : ℕ) → s < states img → edgeTo img s x ≤ 128
   unfolding edgeTo
@@ -66,15 +97,6 @@ module _ (img : List ℕ) (good : shape img ≡ Good) where
           let l : 64 ≤ x = leb-true _ _ (and-left (leb firstNonterminal x) (ltb x (symbols img)) f) in
           let m : x < 64 + nonterminals img = ltb-true _ _ (and-right (leb firstNonterminal x) (ltb x (symbols img)) f) in
           simp (edgeTo, e, f) (omega (arith, good-goto img good s (x - firstNonterminal) ls (omega arith), good-laid img good .sized .s-most))
-
-  pub reduce-within : (s t : ℕ) → s < states img → t < terminals img → reduceOf (act img s t) ≤ 128
-  reduce-within s t ls lt = go (reduceOf (act img s t)) refl
-    where
-      go : (r : ℕ) → reduceOf (act img s t) ≡ r → r ≤ 128
-      go zero e = omega arith
-      go (suc p) e =
-          let f : reduceOf (act img s t) ≡ 1 + p = omega arith in
-          omega (arith, good-reduce img good s t p ls lt (eqb-true _ _ (sym (reduce-code (act img s t) p) ∙ eq-eqb _ _ f)), good-laid img good .sized .p-most)
 
   no-edge : (s x v : ℕ) → symbols img ≤ x → isEdge img s x v ≡ false
   unfolding isEdge edgeTo
@@ -117,15 +139,6 @@ module _ (img : List ℕ) {s : ℕ} {row after : List ℕ} where
     each = λ v u lv lu. p .each v u lv lu ∙ rw (t .each v u lv lu) (below-one-more u s (λ w. someBelow (symbols img) (λ x. eqb (edgeTo img w x) (1 + v))) (eqb u s) refl);
   }
 
-  pub reducers-more : Reducers img s row → PutOne (λ (t : ℕ). reduceOf (act img s t)) s (terminals img) row after → Reducers img (s + 1) after
-  unfolding reduces
-  reducers-more t p = record {
-    size = p .size ∙ t .size;
-    each = λ q u lq lu.
-        p .each q u lq lu ∙ rw (t .each q u lq lu, some-same (terminals img) (λ y. eqb (reduceOf (act img s y)) (1 + q)) (λ y. eqb (act img s y) (3 + 2 * q)) (λ y l. reduce-code (act img s y) q))
-        (below-one-more u s (λ w. someBelow (terminals img) (λ y. eqb (act img w y) (3 + 2 * q))) (eqb u s) refl);
-  }
-
   pub goers-more : nonterminals img ≤ 32 → Goers img s row → PutOne (λ (a : ℕ). present (goto img s a) a) s (nonterminals img) row after → Goers img (s + 1) after
   goers-more few t p = record {
     size = p .size ∙ t .size;
@@ -153,9 +166,6 @@ module _ (img : List ℕ) where
   pub none-carried : Carried img 0 (replicate 256 0)
   unfolding someBelow
   none-carried = record { size = refl; each = λ v x lv lx. empty-row v x lv lx }
-
-  pub no-reducers : Reducers img 0 (replicate 256 0)
-  no-reducers = record { size = refl; each = λ p u lp lu. empty-row p u lp lu ∙ rw (le-ltb u 0 (omega arith)) }
 
   pub no-goers : nonterminals img ≤ 32 → Goers img 0 (replicate 256 0)
   no-goers few = record { size = refl; each = λ a u la lu. empty-row a u (omega arith) lu ∙ rw (le-ltb u 0 (omega arith)) }

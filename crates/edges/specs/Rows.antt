@@ -35,6 +35,11 @@ pub record PutEach (to : ℕ → ℕ) (n : ℕ) (row after : List ℕ) : Type 0 
 pub record Half (test : ℕ → Bool) (h word : ℕ) : Type 0 where
   pub each : (t : ℕ) → t < 64 → member word t ≡ test (64 * h + t)
 
+-- Two words hold the numbers below 128 that pass a test.
+pub record Whole (test : ℕ → Bool) (low high : ℕ) : Type 0 where
+  pub low-half : Half test 0 low
+  pub high-half : Half test 1 high
+
 -- Every number in set v passes the test; every one is x.
 unfoldable pub allIn : List ℕ → ℕ → (ℕ → Bool) → Bool
 allIn row v test = allBelow 128 (λ y. implies (bitAt row v y) (test y))
@@ -42,20 +47,24 @@ allIn row v test = allBelow 128 (λ y. implies (bitAt row v y) (test y))
 abbrev pub onlyIn : List ℕ → ℕ → ℕ → Bool
 onlyIn row v x = allIn row v (λ y. eqb y x)
 
--- The least number of a word, or 64; the least number in set v, or 128.
-pub record Lowest (word r : ℕ) : Type 0 where
-  pub most : r ≤ 64
-  pub there : r < 64 → member word r ≡ true
-  pub none : r ≡ 64 → (t : ℕ) → t < 64 → member word t ≡ false
+-- Of the numbers below n that pass a test, the least that is b or more; n where there is none.
+pub record Next (test : ℕ → Bool) (n b r : ℕ) : Type 0 where
+  pub from : b ≤ r
+  pub most : r ≤ n
+  pub there : r < n → test r ≡ true
+  pub none : (t : ℕ) → b ≤ t → t < r → test t ≡ false
 
-pub record First (row : List ℕ) (v r : ℕ) : Type 0 where
-  pub most : r ≤ 128
-  pub there : r < 128 → bitAt row v r ≡ true
-  pub none : r ≡ 128 → (y : ℕ) → y < 128 → bitAt row v y ≡ false
+-- The same of a set of two words, whatever it holds.
+pub record NextOf (low high b r : ℕ) : Type 0 where
+  pub each : (test : ℕ → Bool) → Whole test low high → Next test 128 b r
 
--- Number y is in a set of the first row whose own number, below n, is in set i of the second.
-unfoldable pub joined : List ℕ → List ℕ → ℕ → ℕ → ℕ → Bool
-joined row of i n y = someBelow n (λ v. bitAt of i v && bitAt row v y)
+-- Two words with number `to - 1` besides, and with nothing more where `to` is 0.
+pub record With (low high to low′ high′ : ℕ) : Type 0 where
+  pub each : (test : ℕ → Bool) → Whole test low high → Whole (λ y. either (test y) (eqb to (1 + y))) low′ high′
+
+-- Number y is in a set of the first row whose own number is in set i of the second.
+unfoldable pub joined : List ℕ → List ℕ → ℕ → ℕ → Bool
+joined row of i y = someBelow 128 (λ v. bitAt of i v && bitAt row v y)
 
 -- Set i is made anew, with the numbers that pass a test; the sets before it are as they were.
 pub record Made (row : List ℕ) (i : ℕ) (test : ℕ → Bool) (after : List ℕ) : Type 0 where

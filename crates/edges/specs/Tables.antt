@@ -8,7 +8,6 @@ use lib.ListN.{length}
 use Rattle.pack.specs.Image.{nonterminals, goto}
 use Rattle.conditions.specs.Tests.{someBelow}
 use Rattle.conditions.specs.Edges.{isEdge, leads}
-use Rattle.conditions.specs.Conditions.{reduces}
 use Rattle.edges.specs.Rows.{bitAt}
 
 -- What a code of the action table reduces by: 1 + p for a reduction by p, and 0 for any other code.
@@ -19,8 +18,8 @@ reduceOf code = elim (eqb (code % 2) 0) [ true ↦ 0 | false ↦ code / 2 ]
 unfoldable pub present : ℕ → ℕ → ℕ
 present cell a = elim (eqb cell 0) [ true ↦ 0 | false ↦ 1 + a ]
 
--- Of the first n parse states: set v holds those with an edge into v; the symbols on edges into v; set p those whose row reduces by p;
--- set a those with a goto on nonterminal a.
+-- Of the first n parse states: set v holds those with an edge into v; the symbols on edges into v; set a those with
+-- a goto on nonterminal a.
 pub record Sources (img : List ℕ) (n : ℕ) (row : List ℕ) : Type 0 where
   pub size : length row ≡ 256
   pub each : (v u : ℕ) → v < 128 → u < 128 → bitAt row v u ≡ (ltb u n && leads img u v)
@@ -28,10 +27,6 @@ pub record Sources (img : List ℕ) (n : ℕ) (row : List ℕ) : Type 0 where
 pub record Carried (img : List ℕ) (n : ℕ) (row : List ℕ) : Type 0 where
   pub size : length row ≡ 256
   pub each : (v x : ℕ) → v < 128 → x < 128 → bitAt row v x ≡ someBelow n (λ s. isEdge img s x v)
-
-pub record Reducers (img : List ℕ) (n : ℕ) (row : List ℕ) : Type 0 where
-  pub size : length row ≡ 256
-  pub each : (p u : ℕ) → p < 128 → u < 128 → bitAt row p u ≡ (ltb u n && reduces img u p)
 
 pub record Goers (img : List ℕ) (n : ℕ) (row : List ℕ) : Type 0 where
   pub size : length row ≡ 256

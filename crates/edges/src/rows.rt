@@ -1,14 +1,13 @@
 // Rows of sets: 128 sets of numbers below 128 in 256 words. (There are no integers of 128 bits to hold such a set.)
 ghost use mathlib.Core.Path.{_≡_};
-ghost use mathlib.Core.Bool.{true, false};
 ghost use Prim.Native.Nat.{_+_, _*_, _^_, _<_, _≤_};
 ghost use lib.Dec.{eqb};
-ghost use lib.ListN.{length, getD, set};
+ghost use lib.ListN.{length, set};
 ghost use Rattle.sets.specs.Sets.{member};
 ghost use Rattle.conditions.specs.Tests.{allBelow, implies};
-ghost use Rattle.edges.specs.Rows.{bitAt, Put, Half, allIn, onlyIn, Lowest, First, joined, Made};
+ghost use Rattle.edges.specs.Rows.{bitAt, Put, Half, Whole, allIn, onlyIn, Next, NextOf, With, joined, Made};
 
-// What `first` gives of an empty set.
+// What `next` gives where there is no such number.
 pub const NONE: usize = 128;
 
 // The set of one number below 64.
@@ -79,48 +78,76 @@ pub fn contained(row: &[u64; 256], v: usize, other: &[u64; 256], w: usize) -> bo
     false
 }
 
-// The least number of a word, or 64.
-fn least(word: u64) -> usize
-    ensures { λ r. ⌜ Lowest word r ⌝ }
+// The least number of a word that is b or more, or 64.
+pub fn next_in(word: u64, b: usize) -> usize
+    requires { ⌜ b ≤ 64 ⌝ }
+    ensures { λ r. ⌜ Next (member word) 64 b r ⌝ }
 {
-    sets::lowest(word) as usize
+    if b < 64 {
+        let rest = word >> b;
+        if rest != 0 {
+            return b + sets::lowest(rest) as usize;
+        }
+    }
+    64
 }
 
-// The least number in set v, or NONE.
-pub fn first(row: &[u64; 256], v: usize) -> usize
-    requires { ⌜ v < 128 ⌝ }
-    ensures { λ r. ⌜ First (now (row .entry)) v r ⌝ }
+// The least number of a set of two words that is b or more, or NONE.
+pub fn next_of(low: u64, high: u64, b: usize) -> usize
+    requires { ⌜ b ≤ 128 ⌝ }
+    ensures { λ r. ⌜ NextOf low high b r ⌝ }
 {
-    let a = least(row[2 * v]);
-    if a < 64 {
-        return a;
+    if b < 64 {
+        let a = next_in(low, b);
+        if a < 64 {
+            return a;
+        }
+        return 64 + next_in(high, 0);
     }
-    64 + least(row[2 * v + 1])
+    64 + next_in(high, b - 64)
 }
 
-// Half h of set v of the first row where v is in set i of the second, and else the empty one.
-fn part(row: &[u64; 256], of: &[u64; 256], i: usize, h: usize, v: usize) -> u64
-    requires { ⌜ (i < 128) × ((h < 2) × (v < 128)) ⌝ }
-    ensures { λ r. ⌜ (bitAt (now (of .entry)) i v ≡ true → r ≡ getD (now (row .entry)) (2 * v + h) 0) × (bitAt (now (of .entry)) i v ≡ false → r ≡ 0) ⌝ }
+// The least number in set v that is b or more, or NONE.
+pub fn next(row: &[u64; 256], v: usize, b: usize) -> usize
+    requires { ⌜ (v < 128) × (b ≤ 128) ⌝ }
+    ensures { λ r. ⌜ Next (bitAt (now (row .entry)) v) 128 b r ⌝ }
 {
-    if bit(of, i, v) {
-        return row[2 * v + h];
-    }
-    0
+    next_of(row[2 * v], row[2 * v + 1], b)
 }
 
-// Half h of the sets of the first row, joined, whose own numbers, below n, are in set i of the second.
-fn join(row: &[u64; 256], of: &[u64; 256], i: usize, h: usize, n: usize) -> u64
-    requires { ⌜ (i < 128) × ((h < 2) × (n ≤ 128)) ⌝ }
-    ensures { λ r. ⌜ Half (joined (now (row .entry)) (now (of .entry)) i n) h r ⌝ }
+// A set by itself: its numbers below 64, and those from 64 on.
+pub struct Wide {
+    pub low: u64,
+    pub high: u64,
+}
+
+// The set of two words with number to - 1, and as it is where to is 0.
+pub fn with(low: u64, high: u64, to: usize) -> Wide
+    ensures { λ r. ⌜ With low high to (r .low) (r .high) ⌝ }
 {
-    let mut word: u64 = 0;
-    let mut v: usize = 0;
-    while v < n {
-        word = word | part(row, of, i, h, v);
-        v += 1;
+    if to == 0 {
+        return Wide { low, high };
     }
-    word
+    Wide {
+        low: low | half(to - 1, 0),
+        high: high | half(to - 1, 1),
+    }
+}
+
+// The sets of the first row, joined, whose own numbers are in set i of the second.
+fn join(row: &[u64; 256], of: &[u64; 256], i: usize) -> Wide
+    requires { ⌜ i < 128 ⌝ }
+    ensures { λ r. ⌜ Whole (joined (now (row .entry)) (now (of .entry)) i) (r .low) (r .high) ⌝ }
+{
+    let mut low: u64 = 0;
+    let mut high: u64 = 0;
+    let mut v = next(of, i, 0);
+    while v < NONE {
+        low = low | row[2 * v];
+        high = high | row[2 * v + 1];
+        v = next(of, i, v + 1);
+    }
+    Wide { low, high }
 }
 
 // Makes set v anew, of two words.
@@ -133,24 +160,31 @@ fn write(row: &mut [u64; 256], v: usize, low: u64, high: u64)
     row[2 * v + 1] = high;
 }
 
-// Set i of the last row: the sets of the first row, joined, whose numbers are in set i of the second.
-pub fn collect(row: &[u64; 256], of: &[u64; 256], to: &mut [u64; 256], i: usize, n: usize)
-    requires { ⌜ length (now to) ≡ 256 ⌝ }
-    requires { ⌜ (i < 128) × (n ≤ 128) ⌝ }
-    ensures { λ r. ⌜ Made (now (to .entry)) i (joined (now (row .entry)) (now (of .entry)) i n) (now (to .exit)) ⌝ }
+// Makes set i anew, with x alone.
+pub fn alone(row: &mut [u64; 256], i: usize, x: usize)
+    requires { ⌜ length (now row) ≡ 256 ⌝ }
+    requires { ⌜ i < 128 ⌝ }
+    ensures { λ r. ⌜ Made (now (row .entry)) i (λ y. eqb y x) (now (row .exit)) ⌝ }
 {
-    let low = join(row, of, i, 0, n);
-    let high = join(row, of, i, 1, n);
-    write(to, i, low, high);
+    write(row, i, half(x, 0), half(x, 1));
+}
+
+// Set i of the last row: the sets of the first row, joined, whose numbers are in set i of the second.
+pub fn collect(row: &[u64; 256], of: &[u64; 256], to: &mut [u64; 256], i: usize)
+    requires { ⌜ length (now to) ≡ 256 ⌝ }
+    requires { ⌜ i < 128 ⌝ }
+    ensures { λ r. ⌜ Made (now (to .entry)) i (joined (now (row .entry)) (now (of .entry)) i) (now (to .exit)) ⌝ }
+{
+    let w = join(row, of, i);
+    write(to, i, w.low, w.high);
 }
 
 // The same as set i + 1 of the second row itself.
-pub fn step(row: &[u64; 256], of: &mut [u64; 256], i: usize, n: usize)
+pub fn step(row: &[u64; 256], of: &mut [u64; 256], i: usize)
     requires { ⌜ length (now of) ≡ 256 ⌝ }
-    requires { ⌜ (i < 127) × (n ≤ 128) ⌝ }
-    ensures { λ r. ⌜ Made (now (of .entry)) (i + 1) (joined (now (row .entry)) (now (of .entry)) i n) (now (of .exit)) ⌝ }
+    requires { ⌜ i < 127 ⌝ }
+    ensures { λ r. ⌜ Made (now (of .entry)) (i + 1) (joined (now (row .entry)) (now (of .entry)) i) (now (of .exit)) ⌝ }
 {
-    let low = join(row, of, i, 0, n);
-    let high = join(row, of, i, 1, n);
-    write(of, i + 1, low, high);
+    let w = join(row, of, i);
+    write(of, i + 1, w.low, w.high);
 }

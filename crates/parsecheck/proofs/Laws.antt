@@ -2,23 +2,28 @@
 use mathlib.Core.Path.{_≡_, refl, sym, ap, ap₂, _∙_}
 use mathlib.Core.Bool.{Bool, true, false, _&&_}
 use mathlib.Core.List.{List}
-use Prim.Native.Nat.{ℕ, zero, suc, _+_, _-_, _<_, _≤_}
+use Prim.Native.Nat.{ℕ, zero, suc, _+_, _*_, _-_, _<_, _≤_}
 use native.Mathlib.Numerals.{add-one}
 use native.Mathlib.Omega.{arith}
 use lib.Dec.{eqb, leb, ltb}
 use lib.ListN.{length}
 use lib.Arith.{lt-of-le-ne}
-use borrow.Author.Tests.{eq-eqb, ne-eqb, le-leb, lt-leb, lt-ltb, eqb-true, leb-true, leb-false, ltb-true}
-use Rattle.pack.specs.Image.{nonterminals, productions, states, lhs, len, symbol, act, goto}
+use borrow.Author.Tests.{ne-eqb, eq-eqb, le-leb, lt-leb, lt-ltb, le-ltb, eqb-true, leb-true, leb-false, ltb-true, ltb-false}
+use Rattle.pack.specs.Image.{terminals, nonterminals, productions, states, lhs, len, symbol, act, goto}
 use Rattle.pack.specs.Laid.{Laid}
+use Rattle.numbers.specs.declared.Verdict.the-variants.{Good}
+use Rattle.shape.specs.Shape.{shape}
+use Rattle.shape.proofs.GoodParser.{good-reduce}
 use Rattle.conditions.specs.Tests.{allBelow, someBelow, implies}
 use Rattle.conditions.specs.Edges.{symbols, leads, enters, onlyOn, reached}
 use Rattle.conditions.specs.Conditions.{k4, reduces, steps, ends, k5, fromStart, k6}
+use Rattle.conditions.specs.Check.{c5, test, inRow}
+use Rattle.conditions.proofs.WalkLaws.{in-row-on, in-row-end}
 use Rattle.conditions.proofs.TestLaws.{alike, false-true, and-left, and-right, and-both, implies-gives, implies-all, all-each, all-true, all-false, some-one, some-true, some-false}
 use Rattle.conditions.proofs.EdgeLaws.{enters-by, edge-on}
-use Rattle.edges.specs.Rows.{bitAt, either, allIn, onlyIn, First, Put, joined, Made}
-use Rattle.edges.specs.Tables.{Sources, Carried, Reducers, Goers}
-use Rattle.edges.proofs.RowLaws.{some-same}
+use Rattle.edges.specs.Rows.{bitAt, allIn, onlyIn, Next, joined, Made}
+use Rattle.edges.specs.Tables.{Sources, Carried, Goers}
+use Rattle.edges.proofs.RowLaws.{some-same, some-past}
 use Rattle.parsecheck.specs.Walked.{Walked}
 
 only-eq : (img : List ℕ) (x v : ℕ) → onlyOn img x v ≡ true → (y : ℕ) → y < symbols img → enters img v y ≡ true → y ≡ x
@@ -43,12 +48,12 @@ module _ (img : List ℕ) (laid : Laid img) {on : List ℕ} (carried : Carried i
       few y l = omega (arith, laid .sized .n-most)
 
   -- K4.
-  module _ (v x : ℕ) (lv : v < states img) (first : First on v x) where
+  module _ (v x : ℕ) (lv : v < states img) (first : Next (bitAt on v) 128 0 x) where
     pub k4-none : x ≡ 128 → true ≡ k4 img v
     unfolding k4 enters
     k4-none e = sym (all-true (symbols img) (λ y. implies (enters img v y) (leb 1 v && onlyOn img y v)) (λ y l. implies-all (enters img v y) (leb 1 v && onlyOn img y v) (λ f.
         let few : y < 128 = omega (arith, laid .sized .n-most) in
-        false-true (sym (first .none e y few) ∙ carried .each v y (omega (arith, laid .sized .s-most)) few ∙ f))))
+        false-true (sym (first .none y (omega arith) (omega arith)) ∙ carried .each v y (omega (arith, laid .sized .s-most)) few ∙ f))))
 
     there : (x ≡ 128 → ⊥) → enters img v x ≡ true
     unfolding enters
@@ -135,11 +140,11 @@ module _ (img : List ℕ) (laid : Laid img) (s : ℕ) (ls : s < states img) wher
   small : (u : ℕ) → u < states img → u < 128
   small u l = omega (arith, laid .sized .s-most)
 
-  pub walked-start : {row after into : List ℕ} → length row ≡ 256 → length into ≡ 256 → ((u : ℕ) → u < 128 → bitAt row 0 u ≡ false) → Put row 1 s after → Walked img s 0 after into
-  unfolding reached either
-  walked-start {row} {after} {into} long long′ none p = record {
-    size = p .size ∙ long;
-    into-size = long′;
+  pub walked-start : {row after into : List ℕ} → length into ≡ 256 → Made row 0 (λ u. eqb u s) after → Walked img s 0 after into
+  unfolding reached
+  walked-start {row} {after} {into} long m = record {
+    size = m .size;
+    into-size = long;
     each = λ i u li lu. go i u li lu (eqb u s) refl;
     symbols = λ i x l lx. absurd (omega arith);
   }
@@ -147,8 +152,8 @@ module _ (img : List ℕ) (laid : Laid img) (s : ℕ) (ls : s < states img) wher
       go : (i u : ℕ) → i ≤ 0 → u < 128 → (b : Bool) → eqb u s ≡ b → bitAt after i u ≡ (ltb u (states img) && reached img s i u)
       go zero u li lu true e =
           let z : u ≡ s = eqb-true u s e in
-          p .each 0 u (omega arith) lu ∙ rw (none u lu, e, z, lt-ltb s (states img) ls)
-      go zero u li lu false e = p .each 0 u (omega arith) lu ∙ rw (none u lu, e) (sym (no-one (ltb u (states img))))
+          m .new u lu ∙ rw (e, z, lt-ltb s (states img) ls)
+      go zero u li lu false e = m .new u lu ∙ rw e (sym (no-one (ltb u (states img))))
         where
           no-one : (x : Bool) → (x && false) ≡ false
           no-one true = refl
@@ -162,31 +167,37 @@ module _ (img : List ℕ) (laid : Laid img) (s : ℕ) (ls : s < states img) wher
     here : (v : ℕ) → v < states img → bitAt back d v ≡ reached img s d v
     here v lv = w .each d v (omega arith) (small v lv) ∙ rw (lt-ltb v (states img) lv)
 
+    -- No number but a state's is in a set of the walk.
+    only-states : (row : List ℕ) (y : ℕ) → joined row back d y ≡ someBelow (states img) (λ v. bitAt back d v && bitAt row v y)
+    unfolding joined
+    only-states row y =
+        sym (some-past (states img) 128 (λ v. bitAt back d v && bitAt row v y) (laid .sized .s-most) (λ v l m. rw (w .each d v (omega arith) m, le-ltb v (states img) l)))
+
     both-ways : (a b : Bool) → (a && b) ≡ elim b as (λ x. Bool) [ true ↦ a | false ↦ false ]
     both-ways true true = refl
     both-ways true false = refl
     both-ways false true = refl
     both-ways false false = refl
 
-    stepped : (u : ℕ) → u < 128 → (b : Bool) → ltb u (states img) ≡ b → joined from back d (states img) u ≡ (ltb u (states img) && reached img s (d + 1) u)
-    unfolding joined reached
+    stepped : (u : ℕ) → u < 128 → (b : Bool) → ltb u (states img) ≡ b → joined from back d u ≡ (ltb u (states img) && reached img s (d + 1) u)
+    unfolding reached
     stepped u lu true e =
-        rw (e, add-one d)
+        only-states from u ∙ rw (e, add-one d)
         (some-same (states img) (λ v. bitAt back d v && bitAt from v u) (λ v. elim (leads img u v) [ true ↦ reached img s d v | false ↦ false ])
         (λ v lv. rw (here v lv, sources .each v u (small v lv) lu, e) (both-ways (reached img s d v) (leads img u v))))
-    stepped u lu false e = rw e (some-false (states img) (λ v. bitAt back d v && bitAt from v u) (λ v lv. rw (sources .each v u (small v lv) lu, e) (no-one (bitAt back d v))))
+    stepped u lu false e = only-states from u ∙ rw e (some-false (states img) (λ v. bitAt back d v && bitAt from v u) (λ v lv. rw (sources .each v u (small v lv) lu, e) (no-one (bitAt back d v))))
       where
         no-one : (x : Bool) → (x && false) ≡ false
         no-one true = refl
         no-one false = refl
 
-    collected : (x : ℕ) → x < 128 → joined on back d (states img) x ≡ someBelow (states img) (λ v. reached img s d v && enters img v x)
-    unfolding joined enters
+    collected : (x : ℕ) → x < 128 → joined on back d x ≡ someBelow (states img) (λ v. reached img s d v && enters img v x)
+    unfolding enters
     collected x lx =
-        some-same (states img) (λ v. bitAt back d v && bitAt on v x) (λ v. reached img s d v && enters img v x)
+        only-states on x ∙ some-same (states img) (λ v. bitAt back d v && bitAt on v x) (λ v. reached img s d v && enters img v x)
         (λ v lv. ap₂ (λ (a b : Bool). a && b) (here v lv) (carried .each v x (small v lv) lx))
 
-    pub walked-more : {back′ into′ : List ℕ} → Made into d (joined on back d (states img)) into′ → Made back (d + 1) (joined from back d (states img)) back′ → Walked img s (d + 1) back′ into′
+    pub walked-more : {back′ into′ : List ℕ} → Made into d (joined on back d) into′ → Made back (d + 1) (joined from back d) back′ → Walked img s (d + 1) back′ into′
     walked-more {back′} {into′} m t = record {
       size = t .size;
       into-size = m .size;
@@ -269,19 +280,41 @@ module _ (img : List ℕ) (laid : Laid img) (s p : ℕ) {back into : List ℕ} (
       (implies-gives (reached img s (len img p) u) (leb 1 (goto img u (lhs img p))) (all-each (states img) (λ u. implies (reached img s (len img p) u) (leb 1 (goto img u (lhs img p)))) e u (ltb-true u (states img) l)) r))))
 
 -- K5 of a production: the row does not reduce by it; a step fails; the end decides.
-module _ (img : List ℕ) (laid : Laid img) {by : List ℕ} (reducers : Reducers img (states img) by) (s p : ℕ) (ls : s < states img) (lp : p < productions img) {b : Bool} (eb : b ≡ bitAt by p s) where
-  by-row : {x : Bool} → b ≡ x → reduces img s p ≡ x
-  by-row e =
-      sym (rw (lt-ltb s (states img) ls) at (reducers .each p s (omega (arith, laid .sized .p-most)) (omega (arith, laid .sized .s-most)))) ∙ sym eb ∙ e
-
-  pub k5-none : b ≡ false → true ≡ k5 img s p
+module _ (img : List ℕ) (s p : ℕ) where
+  pub k5-none : reduces img s p ≡ false → k5 img s p ≡ true
   unfolding k5 implies
-  k5-none e = sym (rw (by-row e))
+  k5-none e = rw e
 
-  pub k5-steps : {r : Bool} → b ≡ true → r ≡ allBelow (len img p) (steps img s p) → r ≡ false → false ≡ k5 img s p
+  pub k5-steps : {r : Bool} → reduces img s p ≡ true → r ≡ allBelow (len img p) (steps img s p) → r ≡ false → false ≡ k5 img s p
   unfolding k5 implies
-  k5-steps e er f = sym (rw (by-row e, sym er ∙ f))
+  k5-steps e er f = sym (rw (e, sym er ∙ f))
 
-  pub k5-end : {r q : Bool} → b ≡ true → r ≡ allBelow (len img p) (steps img s p) → r ≡ true → q ≡ ends img s p → q ≡ k5 img s p
+  pub k5-end : {r q : Bool} → reduces img s p ≡ true → r ≡ allBelow (len img p) (steps img s p) → r ≡ true → q ≡ ends img s p → q ≡ k5 img s p
   unfolding k5 implies
-  k5-end e er f eq = eq ∙ sym (rw (by-row e, sym er ∙ f))
+  k5-end e er f eq = eq ∙ sym (rw (e, sym er ∙ f))
+
+  -- What a row reduces by is a production.
+  pub reduced : shape img ≡ Good → s < states img → reduces img s p ≡ true → p < productions img
+  unfolding reduces
+  reduced good ls e =
+      let r = some-one (terminals img) (λ t. eqb (act img s t) (3 + 2 * p)) e in
+      good-reduce img good s (r .0) p ls (r .1) (eqb-true (act img s (r .0)) (3 + 2 * p) (r .2))
+
+-- A row of places from one that is right to the next that may not be.
+in-row-past : (right : ℕ → Bool) (i n j k : ℕ) → ((t : ℕ) → j ≤ t → t < j + k → right t ≡ true) → inRow right i (n - j) j ≡ inRow right i (n - (j + k)) (j + k)
+in-row-past right i n j zero h = let z : j + 0 ≡ j = omega arith in rw z
+in-row-past right i n j (suc k) h = in-row-past right i n j k (λ t l m. h t l (omega arith)) ∙ go (ltb (j + k) n) refl
+  where
+    next : j + k + 1 ≡ j + suc k
+    next = omega arith
+
+    go : (b : Bool) → ltb (j + k) n ≡ b → inRow right i (n - (j + k)) (j + k) ≡ inRow right i (n - (j + suc k)) (j + suc k)
+    go true e = rw next at (in-row-on right i n (j + k) (ltb-true _ _ e) (h (j + k) (omega arith) (omega arith)))
+    go false e = let l = ltb-false (j + k) n e in in-row-end right i n (j + k) l ∙ sym (in-row-end right i n (j + suc k) (omega arith))
+
+-- Row s of K5, from a production on to the next that it reduces by.
+pub row-past : (img : List ℕ) (s n : ℕ) {j k : ℕ} → Next (reduces img s) 128 j k → inRow (test c5 img s) s (n - j) j ≡ inRow (test c5 img s) s (n - k) k
+unfolding test
+row-past img s n {j} {k} next =
+    let z : j + (k - j) ≡ k = omega (arith, next .from) in
+    rw z at (in-row-past (test c5 img s) s n j (k - j) (λ t l m. k5-none img s t (next .none t l (omega arith))))

@@ -1,14 +1,16 @@
 // The conditions of the parser's tables, K4 to K6: the test of each, and the search for its least places.
 ghost use mathlib.Core.Path.{_≡_};
+ghost use mathlib.Core.Bool.{true};
 ghost use Prim.Native.Nat.{_<_, _≤_};
+ghost use lib.ListN.{length};
 ghost use Rattle.pack.specs.Image.{mostSymbols, states, productions, len};
 ghost use Rattle.pack.specs.Laid.{Laid};
 ghost use Rattle.numbers.specs.declared.Verdict.the-variants.{Good};
 ghost use Rattle.shape.specs.Shape.{shape};
 ghost use Rattle.conditions.specs.Tests.{allBelow};
-ghost use Rattle.conditions.specs.Conditions.{k4, steps, ends, k5, k6};
+ghost use Rattle.conditions.specs.Conditions.{k4, reduces, steps, ends, k5, k6};
 ghost use Rattle.conditions.specs.Check.{c4, c5, c6, test, inRow, find};
-ghost use Rattle.edges.specs.Tables.{Sources, Carried, Reducers, Goers};
+ghost use Rattle.edges.specs.Tables.{Sources, Carried, Goers};
 ghost use Rattle.parsecheck.specs.Walked.{Walked};
 use conditions::Finding;
 use edges::rows;
@@ -21,7 +23,7 @@ fn k4(img: &[u16], v: usize, on: &[u64; 256]) -> bool
     requires { ⌜ Carried (now img) (states (now img)) (now on) ⌝ }
     ensures { λ r. ⌜ r ≡ k4 (now (img .entry)) v ⌝ }
 {
-    let x = rows::first(on, v);
+    let x = rows::next(on, v, 0);
     if x == rows::NONE {
         return true;
     }
@@ -66,11 +68,10 @@ fn extend(
     requires { ⌜ Walked (now img) s depth (now back) (now into) ⌝ }
     ensures { λ r. ⌜ (Walked (now (img .entry)) s r (now (back .exit)) (now (into .exit))) × ((want ≤ r) × (r ≤ mostSymbols)) ⌝ }
 {
-    let n = image::states(img);
     let mut d = depth;
     while d < want {
-        rows::collect(on, back, into, d, n);
-        rows::step(from, back, d, n);
+        rows::collect(on, back, into, d);
+        rows::step(from, back, d);
         d += 1;
     }
     d
@@ -143,14 +144,13 @@ pub struct Tested {
     pub depth: usize,
 }
 
-// K5 of parse state s and production p, where so many steps back from s are made.
+// K5 of parse state s and a production p that its row reduces by, where so many steps back from s are made.
 fn production(
     img: &[u16],
     s: usize,
     p: usize,
     from: &[u64; 256],
     on: &[u64; 256],
-    by: &[u64; 256],
     goes: &[u64; 256],
     back: &mut [u64; 256],
     into: &mut [u64; 256],
@@ -159,52 +159,54 @@ fn production(
     requires { ⌜ Laid (now img) ⌝ }
     requires { ⌜ shape (now img) ≡ Good ⌝ }
     requires { ⌜ (s < states (now img)) × ((p < productions (now img)) × (depth ≤ mostSymbols)) ⌝ }
+    requires { ⌜ reduces (now img) s p ≡ true ⌝ }
     requires { ⌜ (Sources (now img) (states (now img)) (now from)) × (Carried (now img) (states (now img)) (now on)) ⌝ }
-    requires { ⌜ (Reducers (now img) (states (now img)) (now by)) × (Goers (now img) (states (now img)) (now goes)) ⌝ }
+    requires { ⌜ Goers (now img) (states (now img)) (now goes) ⌝ }
     requires { ⌜ Walked (now img) s depth (now back) (now into) ⌝ }
     ensures { λ r. ⌜ (r .right ≡ k5 (now (img .entry)) s p) × ((Walked (now (img .entry)) s (r .depth) (now (back .exit)) (now (into .exit))) × (r .depth ≤ mostSymbols)) ⌝ }
 {
-    if rows::bit(by, p, s) {
-        let d = extend(img, s, from, on, back, into, depth, image::len(img, p));
-        if all_steps(img, s, p, back, into) {
-            let right = end_right(img, s, p, goes, back, into);
-            return Tested { right, depth: d };
-        }
-        return Tested {
-            right: false,
-            depth: d,
-        };
+    let d = extend(img, s, from, on, back, into, depth, image::len(img, p));
+    if all_steps(img, s, p, back, into) {
+        let right = end_right(img, s, p, goes, back, into);
+        return Tested { right, depth: d };
     }
-    Tested { right: true, depth }
+    Tested {
+        right: false,
+        depth: d,
+    }
 }
 
-// K5 of parse state s: the first production that fails. What does not depend on the production is worked out once.
+// K5 of parse state s: the first production that fails. What does not depend on the production is worked out once, in rows that may
+// hold anything before.
 fn row5(
     img: &[u16],
     s: usize,
     from: &[u64; 256],
     on: &[u64; 256],
-    by: &[u64; 256],
     goes: &[u64; 256],
+    back: &mut [u64; 256],
+    into: &mut [u64; 256],
 ) -> Finding
     requires { ⌜ Laid (now img) ⌝ }
     requires { ⌜ shape (now img) ≡ Good ⌝ }
     requires { ⌜ s < states (now img) ⌝ }
     requires { ⌜ (Sources (now img) (states (now img)) (now from)) × (Carried (now img) (states (now img)) (now on)) ⌝ }
-    requires { ⌜ (Reducers (now img) (states (now img)) (now by)) × (Goers (now img) (states (now img)) (now goes)) ⌝ }
+    requires { ⌜ Goers (now img) (states (now img)) (now goes) ⌝ }
+    requires { ⌜ (length (now back) ≡ 256) × (length (now into) ≡ 256) ⌝ }
     ensures { λ r. ⌜ r ≡ inRow (test c5 (now (img .entry)) s) s (productions (now (img .entry))) 0 ⌝ }
+    ensures { λ r. ⌜ (length (now (back .exit)) ≡ 256) × (length (now (into .exit)) ≡ 256) ⌝ }
 {
-    let n = image::productions(img);
-    let mut back = [0u64; 256];
-    let mut into = [0u64; 256];
-    rows::put(&mut back, 1, s);
+    let by = edges::reductions(img, s);
+    let low = by.low;
+    let high = by.high;
+    rows::alone(back, 0, s);
     let mut depth: usize = 0;
-    let mut p: usize = 0;
-    while p < n {
-        let t = production(img, s, p, from, on, by, goes, &mut back, &mut into, depth);
+    let mut p = rows::next_of(low, high, 0);
+    while p < rows::NONE {
+        let t = production(img, s, p, from, on, goes, back, into, depth);
         if t.right {
             depth = t.depth;
-            p += 1;
+            p = rows::next_of(low, high, p + 1);
         } else {
             return Finding::Fails(s, p);
         }
@@ -213,23 +215,19 @@ fn row5(
 }
 
 // The first parse state, and its first production, at which K5 fails.
-pub fn find_k5(
-    img: &[u16],
-    from: &[u64; 256],
-    on: &[u64; 256],
-    by: &[u64; 256],
-    goes: &[u64; 256],
-) -> Finding
+pub fn find_k5(img: &[u16], from: &[u64; 256], on: &[u64; 256], goes: &[u64; 256]) -> Finding
     requires { ⌜ Laid (now img) ⌝ }
     requires { ⌜ shape (now img) ≡ Good ⌝ }
     requires { ⌜ (Sources (now img) (states (now img)) (now from)) × (Carried (now img) (states (now img)) (now on)) ⌝ }
-    requires { ⌜ (Reducers (now img) (states (now img)) (now by)) × (Goers (now img) (states (now img)) (now goes)) ⌝ }
+    requires { ⌜ Goers (now img) (states (now img)) (now goes) ⌝ }
     ensures { λ r. ⌜ r ≡ find c5 (now (img .entry)) ⌝ }
 {
     let n = image::states(img);
+    let mut back = [0u64; 256];
+    let mut into = [0u64; 256];
     let mut s: usize = 0;
     while s < n {
-        let f = row5(img, s, from, on, by, goes);
+        let f = row5(img, s, from, on, goes, &mut back, &mut into);
         if conditions::fails(f) {
             return f;
         }

@@ -1,17 +1,18 @@
-use Rattle.edges.proofs.TableLaws.{no-sources, none-carried, no-reducers, no-goers}
+use Rattle.edges.proofs.TableLaws.{no-sources, none-carried, no-goers}
 use Rattle.checker.proofs.parser_conditions.Statement.{statement}
 use Rattle.checker.proofs.parser_conditions.Tie as tie
 
 fill-requires : tie.Need-fill-requires
 fill-requires c κs =
-    let a = c .before .before .before .before .before in
-    (a .pre .0, (a .pre .1, ((no-sources _, none-carried _), (no-reducers _, no-goers _ (a .pre .0 .sized .n-most)))))
+    let a = c .before .before .before .before in
+    (a .pre .0, (a .pre .1, (no-sources _, (none-carried _, no-goers _ (a .pre .0 .sized .n-most)))))
 
 walk-edges-requires : tie.Need-walk-edges-requires
 walk-edges-requires c κs =
-    let f = c .before .before .before .before in
-    let a = f .before .before .before .before .before .before in
-    (a .pre .0, (a .pre .1, (f .fill .ensures .0, f .fill .ensures .1)))
+    let f = c .before .before .before in
+    let a = f .before .before .before .before .before in
+    let e = f .fill .ensures in
+    (a .pre .0, (a .pre .1, ((e .0, e .1 .0), e .1 .1)))
 
 returns : tie.Need-returns
 returns c = c .walk-edges .ensures

@@ -1,44 +1,36 @@
 use borrow.Author.Needs.{needs}
-use mathlib.Core.Path.{_≡_}
 use Prim.Native.Nat.{_-_, _≤_}
 use native.Mathlib.Omega.{arith}
-use Rattle.pack.specs.Image.{mostSymbols, states}
+use Rattle.pack.specs.Image.{mostSymbols}
 use Rattle.parsecheck.specs.Walked.{Walked}
 use Rattle.parsecheck.proofs.Laws as laws
 use Rattle.parsecheck.proofs.extend.Statement.{statement}
 use Rattle.parsecheck.proofs.extend.Tie as tie
 
 abbrev Inv-loop : tie.InvT-loop
-Inv-loop img s from on back₀ into₀ depth want n d₀ back into d = (d ≤ mostSymbols) × (n ≡ states img) × (Walked img s d back into)
+Inv-loop img s from on back₀ into₀ depth want d₀ back into d = (d ≤ mostSymbols) × (Walked img s d back into)
 
 abbrev μ-loop : tie.MeasureT-loop
-μ-loop img s from on back₀ into₀ depth want n d₀ back into d = want - d
+μ-loop img s from on back₀ into₀ depth want d₀ back into d = want - d
 
 loop-holds : tie.Need-loop-holds Inv-loop μ-loop
-loop-holds c = let a = c .before .before in (a .pre .1 .0 .1 .0, c .states .ensures, a .pre .1 .1 .1)
+loop-holds c = let a = c .before in (a .pre .1 .0 .1 .0, a .pre .1 .1 .1)
 
 collect-requires : tie.Need-collect-requires Inv-loop μ-loop
-collect-requires c κs =
-    let l = c .before .before .before in
-    let a = l .before .before .before in
-    (l .loop .inv .2 .into-size, (omega arith, omega (arith, a .pre .0 .sized .s-most)))
+collect-requires c κs = let l = c .before .before .before in (l .loop .inv .1 .into-size, omega (arith, l .loop .inv .0))
 
 step-requires : tie.Need-step-requires Inv-loop μ-loop
-step-requires c κs =
-    let l = c .before .before .before .before .before in
-    let a = l .before .before .before in
-    (l .loop .inv .2 .size, (omega arith, omega (arith, a .pre .0 .sized .s-most)))
+step-requires c κs = let l = c .before .before .before .before .before in (l .loop .inv .1 .size, omega (arith, l .loop .inv .0))
 
 loop-again : tie.Need-loop-again Inv-loop μ-loop
 loop-again c =
     let m = c .before .before in
     let l = m .before .before .before .before in
-    let a = l .before .before .before in
-    let v = l .loop .inv in
-    (omega (arith, a .pre .1 .0 .1 .1), v .1, laws.walked-more _ (a .pre .0) _ (a .pre .1 .0 .0) (a .pre .1 .1 .0 .0) (a .pre .1 .1 .0 .1) (v .2) (rw (v .1) at (m .collect .ensures)) (rw (v .1) at (c .step .ensures)))
+    let a = l .before .before in
+    (omega (arith, a .pre .1 .0 .1 .1), laws.walked-more _ (a .pre .0) _ (a .pre .1 .0 .0) (a .pre .1 .1 .0 .0) (a .pre .1 .1 .0 .1) (l .loop .inv .1) (m .collect .ensures) (c .step .ensures))
 
 returns : tie.Need-returns Inv-loop μ-loop
-returns c = (c .before .loop .inv .2, (omega arith, c .before .loop .inv .0))
+returns c = (c .before .loop .inv .1, (omega arith, c .before .loop .inv .0))
 
 pub extend-spec : {M : Type 1} → statement M
-extend-spec = tie.close (tie.spec Inv-loop μ-loop (λ c κs. search needs) loop-holds collect-requires step-requires (λ c. search needs) (λ c. search needs) loop-again returns)
+extend-spec = tie.close (tie.spec Inv-loop μ-loop loop-holds collect-requires step-requires (λ c. search needs) (λ c. search needs) loop-again returns)

@@ -1,30 +1,38 @@
 use borrow.Author.Needs.{needs}
 use mathlib.Core.Path.{_≡_}
-use Prim.Native.Nat.{_-_, _≤_}
+use mathlib.Core.Bool.{true}
+use Prim.Native.Nat.{_-_, _<_, _≤_}
 use native.Mathlib.Omega.{arith}
-use Rattle.edges.specs.Rows.{Half, joined}
+use Rattle.edges.specs.Rows.{bitAt, Whole}
 use Rattle.edges.proofs.RowLaws as laws
 use Rattle.edges.proofs.rows.join.Statement.{statement}
 use Rattle.edges.proofs.rows.join.Tie as tie
 
 abbrev Inv-loop : tie.InvT-loop
-Inv-loop row of i h n word₀ v₀ word v = (v ≤ n) × (Half (joined row of i v) h word)
+Inv-loop row of i low₀ high₀ v₀ low high v = (v ≤ 128) × (v < 128 → bitAt of i v ≡ true) × (Whole (laws.joinedBelow row of i v) low high)
 
 abbrev μ-loop : tie.MeasureT-loop
-μ-loop row of i h n word₀ v₀ word v = n - v
+μ-loop row of i low₀ high₀ v₀ low high v = 128 - v
 
 loop-holds : tie.Need-loop-holds Inv-loop μ-loop
-loop-holds c = (search needs, laws.join-none _ _ _ _)
+loop-holds c = let n = c .next .ensures in (n .most, n .there, laws.join-past _ _ _ (laws.join-none _ _ _) n)
+
+loop-less : tie.Need-loop-less Inv-loop μ-loop
+loop-less c = omega (arith, c .next2 .ensures .from)
 
 loop-again : tie.Need-loop-again Inv-loop μ-loop
 loop-again c =
-    let l = c .before in
-    (search needs, laws.join-more _ _ _ _ (l .before .loop .v) (l .before .loop .inv .1) (c .part .ensures .0) (c .part .ensures .1))
+    let n = c .next2 .ensures in
+    let l = c .before .before .before in
+    let v = l .before .loop .inv in
+    (n .most, n .there, laws.join-past _ _ _ (laws.join-more _ _ _ _ (v .2) (v .1 (l .loop-test .taken))) n)
 
 returns : tie.Need-returns Inv-loop μ-loop
 returns c =
-    let z : c .before .loop .v ≡ c .before .before .args .n = omega arith in
-    rw z at (c .before .loop .inv .1)
+    let z : c .before .loop .v ≡ 128 = omega arith in
+    laws.join-all _ _ _ (rw z at (c .before .loop .inv .2))
 
 pub join-spec : {M : Type 1} → statement M
-join-spec = tie.close (tie.spec Inv-loop μ-loop loop-holds (λ c κs. search needs) (λ c. search needs) (λ c. search needs) loop-again returns)
+join-spec =
+    tie.close
+    (tie.spec Inv-loop μ-loop (λ c κs. search needs) loop-holds (λ c. search needs) (λ c. search needs) (λ c. search needs) (λ c. search needs) (λ c. search needs) (λ c. search needs) (λ c. search needs) (λ c. search needs) (λ c κs. search needs) loop-less loop-again returns)
