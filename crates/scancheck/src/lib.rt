@@ -1,8 +1,11 @@
 // The conditions of the scanner's tables, K1 to K3: the test of each, and the search for its least places.
 use conditions::Finding;
+use edges::rows;
 use pack::image;
 ghost use mathlib.Core.Path.{_≡_};
+ghost use mathlib.Core.Bool.{true, false};
 ghost use Prim.Native.Nat.{_<_, _≤_};
+ghost use Rattle.sets.specs.Sets.{several};
 ghost use Rattle.pack.specs.Image.{terminals, scanStates};
 ghost use Rattle.pack.specs.Laid.{Laid};
 ghost use Rattle.numbers.specs.declared.Verdict.the-variants.{Good};
@@ -10,6 +13,7 @@ ghost use Rattle.shape.specs.Shape.{shape};
 ghost use Rattle.conditions.specs.Tests.{same};
 ghost use Rattle.conditions.specs.Conditions.{outranked, k1, within, k2, isGroup, settled};
 ghost use Rattle.conditions.specs.Check.{c1, c2, c3, told, find};
+ghost use Rattle.scancheck.specs.Together.{Together};
 
 // Whether t is in the set, and something in it outranks t.
 fn outranked(img: &[u16], m: u64, t: usize) -> bool
@@ -36,7 +40,7 @@ fn agree(a: bool, b: bool) -> bool
     true
 }
 
-// K1 of scan state q.
+// K1 of scan state q: what does not match there is neither rejected nor outranked, and is passed over.
 fn k1(img: &[u16], q: usize) -> bool
     requires { ⌜ Laid (now img) ⌝ }
     requires { ⌜ q < scanStates (now img) ⌝ }
@@ -45,10 +49,10 @@ fn k1(img: &[u16], q: usize) -> bool
     let n = image::terminals(img);
     let rej = image::rej(img, q);
     let m = image::acc(img, q) | rej;
-    let mut t: usize = 0;
+    let mut t = rows::next_in(m, 0);
     while t < n {
         if agree(sets::member(rej, t), outranked(img, m, t)) {
-            t += 1;
+            t = rows::next_in(m, t + 1);
         } else {
             return false;
         }
@@ -155,6 +159,41 @@ fn settled(img: &[u16], q: usize, v: u64) -> bool
     true
 }
 
+// The set, where there is more than one terminal in it.
+fn crowd(set: u64) -> u64
+    ensures { λ r. ⌜ (several set ≡ true → r ≡ set) × (several set ≡ false → r ≡ 0) ⌝ }
+{
+    if sets::several(set) {
+        return set;
+    }
+    0
+}
+
+// The terminals that some scan state accepts together with others.
+fn together(img: &[u16]) -> u64
+    requires { ⌜ Laid (now img) ⌝ }
+    ensures { λ r. ⌜ Together (now (img .entry)) (scanStates (now (img .entry))) r ⌝ }
+{
+    let n = image::scan_states(img);
+    let mut set: u64 = 0;
+    let mut q: usize = 0;
+    while q < n {
+        set = set | crowd(image::acc(img, q));
+        q += 1;
+    }
+    set
+}
+
+// How many of n scan states are to be looked at for a set of terminals: none where they are fewer than two.
+fn to_look_at(v: u64, n: usize) -> usize
+    ensures { λ r. ⌜ (several v ≡ true → r ≡ n) × (several v ≡ false → r ≡ 0) ⌝ }
+{
+    if sets::several(v) {
+        return n;
+    }
+    0
+}
+
 // Where the search of K3 stopped: whether it found a pair, and which.
 pub struct Pair {
     pub found: bool,
@@ -162,20 +201,23 @@ pub struct Pair {
     pub q: usize,
 }
 
-// Walks parse states s, inside it scan states q, and stops at the first pair at which K3 fails.
+// Walks parse states s, inside it scan states q, and stops at the first pair at which K3 fails. Of what s allows only those terminals
+// count that are accepted together with others; where they are fewer than two, no scan state is looked at.
 fn first_pair(img: &[u16]) -> Pair
     requires { ⌜ Laid (now img) ⌝ }
     ensures { λ r. ⌜ told (r .found) (r .s) (r .q) ≡ find c3 (now (img .entry)) ⌝ }
 {
     let ns = image::states(img);
     let nq = image::scan_states(img);
+    let crowded = together(img);
     let mut found = false;
     let mut s: usize = 0;
     let mut q: usize = 0;
     'states: while s < ns {
-        let v = image::valid_set(img, s);
+        let v = image::valid_set(img, s) & crowded;
+        let n = to_look_at(v, nq);
         q = 0;
-        while q < nq {
+        while q < n {
             if settled(img, q, v) {
                 q += 1;
             } else {
