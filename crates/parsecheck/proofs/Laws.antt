@@ -279,6 +279,14 @@ module _ (img : List ℕ) (laid : Laid img) (s p : ℕ) {back into : List ℕ} (
       g .each (lhs img p) u la lu ∙ and-both (ltb u (states img)) (leb 1 (goto img u (lhs img p))) l
       (implies-gives (reached img s (len img p) u) (leb 1 (goto img u (lhs img p))) (all-each (states img) (λ u. implies (reached img s (len img p) u) (leb 1 (goto img u (lhs img p)))) e u (ltb-true u (states img) l)) r))))
 
+-- What holds from i on and just before it holds from there on.
+pub one-down : {n : ℕ} (right : ℕ → Bool) (i : ℕ) → ((j : ℕ) → i ≤ j → j < n → right j ≡ true) → right (i - 1) ≡ true → (j : ℕ) → i - 1 ≤ j → j < n → right j ≡ true
+one-down {n} right i h e j l m = go (ltb j i) refl
+  where
+    go : (b : Bool) → ltb j i ≡ b → right j ≡ true
+    go true f = let z : j ≡ i - 1 = omega (arith, ltb-true j i f) in rw z e
+    go false f = h j (ltb-false j i f) m
+
 -- K5 of a production: the row does not reduce by it; a step fails; the end decides.
 module _ (img : List ℕ) (s p : ℕ) where
   pub k5-none : reduces img s p ≡ false → k5 img s p ≡ true

@@ -99,7 +99,7 @@ fn step_right(
     rows::only(into, i, image::symbol(img, p, image::len(img, p) - 1 - i))
 }
 
-// Whether every step back is right.
+// Whether every step back is right, the last one asked first.
 fn all_steps(img: &[u16], s: usize, p: usize, back: &[u64; 256], into: &[u64; 256]) -> bool
     requires { ⌜ Laid (now img) ⌝ }
     requires { ⌜ shape (now img) ≡ Good ⌝ }
@@ -107,11 +107,10 @@ fn all_steps(img: &[u16], s: usize, p: usize, back: &[u64; 256], into: &[u64; 25
     requires { ⌜ Walked (now img) s (len (now img) p) (now back) (now into) ⌝ }
     ensures { λ r. ⌜ r ≡ allBelow (len (now (img .entry)) p) (steps (now (img .entry)) s p) ⌝ }
 {
-    let n = image::len(img, p);
-    let mut i: usize = 0;
-    while i < n {
-        if step_right(img, s, p, i, back, into) {
-            i += 1;
+    let mut i = image::len(img, p);
+    while 0 < i {
+        if step_right(img, s, p, i - 1, back, into) {
+            i -= 1;
         } else {
             return false;
         }

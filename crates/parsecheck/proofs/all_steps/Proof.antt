@@ -1,24 +1,23 @@
 use borrow.Author.Needs.{needs}
 use mathlib.Core.Path.{_≡_, sym, _∙_}
 use mathlib.Core.Bool.{true}
-use Prim.Native.Nat.{ℕ, _-_, _≤_, _<_}
+use Prim.Native.Nat.{ℕ, _≤_, _<_}
 use native.Mathlib.Omega.{arith}
-use native.Mathlib.Nat.{not-suc-le-zero}
-use borrow.Author.Count.{below-more}
 use Rattle.pack.specs.Image.{len}
 use Rattle.conditions.specs.Conditions.{steps}
 use Rattle.conditions.proofs.TestLaws.{all-true, all-false}
+use Rattle.parsecheck.proofs.Laws.{one-down}
 use Rattle.parsecheck.proofs.all_steps.Statement.{statement}
 use Rattle.parsecheck.proofs.all_steps.Tie as tie
 
 abbrev Inv-loop : tie.InvT-loop
-Inv-loop img s p back into n i₀ i = (i ≤ n) × (n ≡ len img p) × ((j : ℕ) → j < i → steps img s p j ≡ true)
+Inv-loop img s p back into i₀ i = (i ≤ len img p) × ((j : ℕ) → i ≤ j → j < len img p → steps img s p j ≡ true)
 
 abbrev μ-loop : tie.MeasureT-loop
-μ-loop img s p back into n i₀ i = n - i
+μ-loop img s p back into i₀ i = i
 
 loop-holds : tie.Need-loop-holds Inv-loop μ-loop
-loop-holds c = (search needs, search needs, λ j l. absurd (not-suc-le-zero l))
+loop-holds c = (omega (arith, c .len .ensures), λ j l m. absurd (omega (arith, c .len .ensures)))
 
 step-right-requires : tie.Need-step-right-requires Inv-loop μ-loop
 step-right-requires c κs =
@@ -29,16 +28,15 @@ loop-again : tie.Need-loop-again Inv-loop μ-loop
 loop-again c =
     let r = c .before in
     let v = r .before .before .loop .inv in
-    (search needs, v .1, below-more _ _ (v .2) (sym (r .step-right .ensures) ∙ c .if1 .taken))
+    (omega arith, one-down _ _ (v .1) (sym (r .step-right .ensures) ∙ c .if1 .taken))
 
 returns : tie.Need-returns Inv-loop μ-loop
 returns c =
     let r = c .before in
-    let l = r .before .before in
-    sym (all-false _ _ (l .loop .i) (omega arith) (sym (r .step-right .ensures) ∙ c .if1 .left))
+    sym (all-false _ _ _ (omega arith) (sym (r .step-right .ensures) ∙ c .if1 .left))
 
 returns-2 : tie.Need-returns-2 Inv-loop μ-loop
-returns-2 c = sym (all-true _ _ (λ j l. c .before .loop .inv .2 j (omega arith)))
+returns-2 c = sym (all-true _ _ (λ j l. c .before .loop .inv .1 j (omega arith) l))
 
 pub all-steps-spec : {M : Type 1} → statement M
-all-steps-spec = tie.close (tie.spec Inv-loop μ-loop (λ c κs. search needs) loop-holds step-right-requires (λ c. search needs) (λ c. search needs) loop-again returns returns-2)
+all-steps-spec = tie.close (tie.spec Inv-loop μ-loop (λ c κs. search needs) loop-holds (λ c. search needs) step-right-requires (λ c. search needs) (λ c. search needs) loop-again returns returns-2)
