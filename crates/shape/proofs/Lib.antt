@@ -3,3 +3,4 @@ pub mod GoodParser
 pub mod Laws
 pub mod RuleLaws
 pub mod Sound
+pub mod Sums

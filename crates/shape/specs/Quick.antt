@@ -1,36 +1,39 @@
--- Manual, section 1.6: what the quick passes over the large tables promise where they say that all is well. `shape` does not use this
--- file.
+-- Manual, section 1.6: what the quick passes over the tables promise where they say that all is well. `shape` does not use this file.
 use mathlib.Core.Path.{_≡_}
-use mathlib.Core.Bool.{true}
+use mathlib.Core.Bool.{true, false}
 use mathlib.Core.List.{List}
-use Prim.Native.Nat.{ℕ, _+_, _*_, _%_, _<_, _≤_}
+use Prim.Native.Nat.{ℕ, zero, suc, _+_, _*_, _%_, _<_, _≤_}
+use lib.Dec.{eqb, leb}
 use lib.ListN.{length, getD}
 use Rattle.sets.specs.Sets.{member}
-use Rattle.pack.specs.Image.{mostTerminals, terminals, productions, states, actStart, layout}
+use Rattle.pack.specs.Image.{terminals, states, layout, act}
 
 -- No word is above the limit.
 pub record Above (words : List ℕ) (most : ℕ) : Type 0 where
   pub each : (j : ℕ) → j < length words → getD words j 0 ≤ most
 
--- A layout column allows nothing.
-pub record Free (layout : ℕ) (free : List ℕ) : Type 0 where
-  pub shut : (t : ℕ) → t < mostTerminals → member layout t ≡ true → getD free t 0 ≡ 0
+-- f 0 + f 1 + .. , n of them.
+unfoldable pub sum : (ℕ → ℕ) → ℕ → ℕ
+sum f zero = 0
+sum f (suc n) = sum f n + f n
 
--- An action code of a column other than 0.
-pub record Sound (code free shifts reductions : ℕ) : Type 0 where
-  pub allowed : code ≤ free
-  pub no-accept : code ≡ 1 → ⊥
-  pub even : code % 2 ≡ 0 → code ≤ shifts
-  pub odd : (code % 2 ≡ 0 → ⊥) → code ≤ reductions
+-- 1 where an action code accepts.
+unfoldable pub accept : ℕ → ℕ
+accept code = elim (eqb code 1) [ true ↦ 1 | false ↦ 0 ]
 
--- All of a row from column 1 on.
-pub record SoundRow (words free : List ℕ) (shifts reductions : ℕ) : Type 0 where
-  pub each : (t : ℕ) → 1 ≤ t → t < length words → Sound (getD words t 0) (getD free t 0) shifts reductions
+-- The greatest code that names a state, for an even one, or a production.
+unfoldable pub greatest : ℕ → ℕ → ℕ → ℕ
+greatest shifts reductions code = elim (eqb (code % 2) 0) [ true ↦ shifts | false ↦ reductions ]
 
--- What a pass over the row of parse state s is given: where the row begins, what its columns allow, and the greatest codes.
-pub record RowAt (img free : List ℕ) (s at shifts reductions : ℕ) : Type 0 where
-  pub state : s < states img
-  pub starts : at ≡ actStart img + s * terminals img
-  pub allows : Free (layout img) free
-  pub shift-most : shifts ≡ states img * 2
-  pub reduce-most : reductions ≡ productions img * 2 + 1
+-- 1 where a code accepts, or names no state or production.
+unfoldable pub strange : ℕ → ℕ → ℕ → ℕ
+strange shifts reductions code = elim (leb code (greatest shifts reductions code)) [ true ↦ accept code | false ↦ 1 ]
+
+-- Column 0 has no shift, and so many accepts or more.
+pub record First (img : List ℕ) (most : ℕ) : Type 0 where
+  pub no-shift : (s : ℕ) → s < states img → act img s 0 % 2 ≡ 0 → act img s 0 ≡ 0
+  pub accepts : most ≤ sum (λ s. accept (act img s 0)) (states img)
+
+-- A layout column has errors only.
+pub record Shut (img : List ℕ) : Type 0 where
+  pub each : (t : ℕ) → t < terminals img → member (layout img) t ≡ true → (s : ℕ) → s < states img → act img s t ≡ 0

@@ -1,17 +1,17 @@
-// Quick passes over the large tables, with no way out before the end of a row, so that the compiler can take many words at once. Each
-// says only whether all is well: where it says no, the exact walk of tables.rt gives the place. So a pass promises something only where
-// it says yes.
+// Quick passes over the tables. Each says only whether all is well: where it says no, the exact walk of tables.rt gives the place. So a
+// pass promises something only where it says yes. Where a table is large its pass has no way out before the end, so that the compiler can
+// take many words at once.
 use pack::image;
 ghost use mathlib.Core.Path.{_≡_};
-ghost use mathlib.Core.Bool.{true};
-ghost use Prim.Native.Nat.{_+_, _*_, _%_, _<_, _≤_};
-ghost use lib.ListN.{length};
+ghost use mathlib.Core.Bool.{true, false};
+ghost use Prim.Native.Nat.{ℕ, _+_, _*_, _%_, _<_, _≤_};
+ghost use lib.ListN.{length, getD};
 ghost use Rattle.sets.specs.Sets.{member};
 ghost use Rattle.numbers.specs.declared.Verdict.the-variants.{Good};
 ghost use Rattle.shape.specs.declared.tables.Ruled.the-variants.{Act};
-ghost use Rattle.pack.specs.Image.{mostTerminals, terminals, states};
+ghost use Rattle.pack.specs.Image.{terminals, states, act};
 ghost use Rattle.pack.specs.Laid.{Laid};
-ghost use Rattle.shape.specs.Quick.{Above, Free, RowAt, Sound, SoundRow};
+ghost use Rattle.shape.specs.Quick.{Above, sum, accept, greatest, strange, First, Shut};
 ghost use Rattle.shape.specs.Rows.{rowRule};
 ghost use Rattle.shape.specs.Shape.{each};
 
@@ -34,31 +34,19 @@ pub fn largest(words: &[u16]) -> usize
     top as usize
 }
 
-// The most that a code of a column may be: nothing in a layout column, anything in another.
-fn free_in(layout: u64, t: usize) -> u16
-    ensures { λ r. ⌜ (member layout t ≡ true → r ≡ 0) ⌝ }
+// 1 where an action code accepts.
+fn accept(code: u16) -> u16
+    ensures { λ r. ⌜ (r ≡ accept code) × (r ≤ 1) ⌝ }
 {
-    if sets::member(layout, t) {
-        return 0;
+    if code == 1 {
+        return 1;
     }
-    65535
-}
-
-fn free_columns(layout: u64) -> [u16; image::MOST_TERMINALS]
-    ensures { λ r. ⌜ Free layout r ⌝ }
-{
-    let mut free = [0u16; image::MOST_TERMINALS];
-    let mut t: usize = 0;
-    while t < image::MOST_TERMINALS {
-        free[t] = free_in(layout, t);
-        t += 1;
-    }
-    free
+    0
 }
 
 // The greatest code that names a state, for an even one, or a production.
 fn greatest(code: u16, shifts: u16, reductions: u16) -> u16
-    ensures { λ r. ⌜ (code % 2 ≡ 0 → r ≡ shifts) × ((code % 2 ≡ 0 → ⊥) → r ≡ reductions) ⌝ }
+    ensures { λ r. ⌜ r ≡ greatest shifts reductions code ⌝ }
 {
     if code % 2 == 0 {
         return shifts;
@@ -66,75 +54,118 @@ fn greatest(code: u16, shifts: u16, reductions: u16) -> u16
     reductions
 }
 
-// 1 where the code of a column other than 0 is wrong: above what the column allows, an accept, or the name of no state or production.
-fn flaw(code: u16, free: u16, shifts: u16, reductions: u16) -> u16
-    ensures { λ r. ⌜ (r ≡ 0 → Sound code free shifts reductions) ⌝ }
+// 1 where a code accepts, or names no state or production.
+fn strange(code: u16, shifts: u16, reductions: u16) -> u16
+    ensures { λ r. ⌜ (r ≡ strange shifts reductions code) × (r ≤ 1) ⌝ }
 {
-    if free < code {
-        return 1;
-    }
     if greatest(code, shifts, reductions) < code {
         return 1;
     }
-    if code == 1 {
-        return 1;
-    }
-    0
+    accept(code)
 }
 
-// 0 where no code of the row is wrong, from column 1 on.
-fn flaws(words: &[u16], free: &[u16; image::MOST_TERMINALS], shifts: u16, reductions: u16) -> u16
-    requires { ⌜ length (now words) ≤ mostTerminals ⌝ }
-    ensures { λ r. ⌜ (r ≡ 0 → SoundRow (now (words .entry)) (now (free .entry)) shifts reductions) ⌝ }
+// How many of the codes are strange.
+fn tally(words: &[u16], shifts: u16, reductions: u16) -> u16
+    requires { ⌜ length (now words) < 65536 ⌝ }
+    ensures { λ r. ⌜ r ≡ sum (λ i. strange shifts reductions (getD (now (words .entry)) i 0)) (length (now (words .entry))) ⌝ }
 {
-    let mut found: u16 = 0;
-    let mut t: usize = 1;
-    while t < words.len() {
-        found = larger(found, flaw(words[t], free[t], shifts, reductions));
-        t += 1;
+    let mut n: u16 = 0;
+    let mut i: usize = 0;
+    while i < words.len() {
+        n += strange(words[i], shifts, reductions);
+        i += 1;
     }
-    found
+    n
 }
 
-// Whether the row of parse state s is right, which begins at a place.
-fn row(
-    img: &[u16],
-    free: &[u16; image::MOST_TERMINALS],
-    s: usize,
-    at: usize,
-    shifts: u16,
-    reductions: u16,
-) -> bool
-    requires { ⌜ Laid (now img) ⌝ }
-    requires { ⌜ RowAt (now img) (now free) s at shifts reductions ⌝ }
-    ensures { λ r. ⌜ (r ≡ true → rowRule (now (img .entry)) Act s ≡ Good) ⌝ }
+// Whether a code shifts.
+fn is_shift(code: u16) -> bool
+    ensures { λ r. ⌜ (r ≡ false → code % 2 ≡ 0 → code ≡ 0) ⌝ }
 {
-    if rules::act_right(img, 0, image::act(img, s, 0)) {
-        let end = at + image::terminals(img);
-        return flaws(&img[at..end], free, shifts, reductions) == 0;
+    if code % 2 == 0 {
+        return 0 < code;
     }
     false
 }
 
-// Whether every action code is right.
-pub fn acts(img: &[u16]) -> bool
+// Whether column 0 has no shift, and so many accepts.
+fn first_column(img: &[u16], most: u16) -> bool
     requires { ⌜ Laid (now img) ⌝ }
-    ensures { λ r. ⌜ (r ≡ true → each (rowRule (now (img .entry)) Act) (states (now (img .entry))) 0 ≡ Good) ⌝ }
+    ensures { λ r. ⌜ (r ≡ true → First (now (img .entry)) most) ⌝ }
 {
     let rows = image::states(img);
-    let width = image::terminals(img);
-    let shifts = (rows * 2) as u16;
-    let reductions = (image::productions(img) * 2 + 1) as u16;
-    let free = free_columns(image::layout(img));
-    let mut at = image::act_start(img);
+    let mut n: u16 = 0;
     let mut s: usize = 0;
     while s < rows {
-        if row(img, &free, s, at, shifts, reductions) {
-            at += width;
+        let code = img[image::act_at(img, s, 0)];
+        if is_shift(code) {
+            return false;
+        }
+        n += accept(code);
+        s += 1;
+    }
+    most <= n
+}
+
+// Whether a column has errors only.
+fn empty_column(img: &[u16], t: usize) -> bool
+    requires { ⌜ Laid (now img) ⌝ }
+    requires { ⌜ t < terminals (now img) ⌝ }
+    ensures { λ r. ⌜ (r ≡ true → (s : ℕ) → s < states (now (img .entry)) → act (now (img .entry)) s t ≡ 0) ⌝ }
+{
+    let rows = image::states(img);
+    let mut s: usize = 0;
+    while s < rows {
+        if image::act(img, s, t) == 0 {
             s += 1;
         } else {
             return false;
         }
     }
     true
+}
+
+// Whether a column has errors only, where it is a layout column.
+fn right_column(img: &[u16], set: u64, t: usize) -> bool
+    requires { ⌜ Laid (now img) ⌝ }
+    requires { ⌜ t < terminals (now img) ⌝ }
+    ensures { λ r. ⌜ (r ≡ true → member set t ≡ true → (s : ℕ) → s < states (now (img .entry)) → act (now (img .entry)) s t ≡ 0) ⌝ }
+{
+    if sets::member(set, t) {
+        return empty_column(img, t);
+    }
+    true
+}
+
+// Whether each layout column has errors only.
+fn layout_columns(img: &[u16]) -> bool
+    requires { ⌜ Laid (now img) ⌝ }
+    ensures { λ r. ⌜ (r ≡ true → Shut (now (img .entry))) ⌝ }
+{
+    let set = image::layout(img);
+    let width = image::terminals(img);
+    let mut t: usize = 0;
+    while t < width {
+        if right_column(img, set, t) {
+            t += 1;
+        } else {
+            return false;
+        }
+    }
+    true
+}
+
+// Whether every action code is right. All strange codes are accepts of column 0 where there are no more of the former.
+pub fn acts(img: &[u16]) -> bool
+    requires { ⌜ Laid (now img) ⌝ }
+    ensures { λ r. ⌜ (r ≡ true → each (rowRule (now (img .entry)) Act) (states (now (img .entry))) 0 ≡ Good) ⌝ }
+{
+    let shifts = (image::states(img) * 2) as u16;
+    let reductions = (image::productions(img) * 2 + 1) as u16;
+    let start = image::act_start(img);
+    let end = image::goto_start(img);
+    if first_column(img, tally(&img[start..end], shifts, reductions)) {
+        return layout_columns(img);
+    }
+    false
 }

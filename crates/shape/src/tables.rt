@@ -231,17 +231,12 @@ pub fn rows(img: &[u16], table: Ruled, n: usize) -> Verdict
     Verdict::Good
 }
 
-// The quick pass over the action table pays only where a row is long; rows of fewer columns are walked at once.
-const LONG_ROW: usize = 16;
-
 pub fn acts(img: &[u16]) -> Verdict
     requires { ⌜ Laid (now img) ⌝ }
     ensures { λ r. ⌜ r ≡ each (rowRule (now (img .entry)) Act) (states (now (img .entry))) 0 ⌝ }
 {
-    if LONG_ROW <= image::terminals(img) {
-        if quick::acts(img) {
-            return Verdict::Good;
-        }
+    if quick::acts(img) {
+        return Verdict::Good;
     }
     rows(img, Ruled::Act, image::states(img))
 }

@@ -7,7 +7,7 @@ use Rattle.shape.proofs.tables.acts.Statement.{statement}
 use Rattle.shape.proofs.tables.acts.Tie as tie
 
 returns : tie.Need-returns
-returns c = sym (c .before .acts .ensures (c .if2 .taken))
+returns c = sym (c .before .acts .ensures (c .if1 .taken))
 
 rows-requires : tie.Need-rows-requires
 unfolding rowsOf
@@ -19,4 +19,4 @@ returns-2 c = same-count _ (c .rows .ensures) (c .before .states .ensures)
 pub acts-spec : {M : Type 1} → statement M
 acts-spec =
     tie.close
-    (tie.spec (λ c κs. search needs) (λ c κs. search needs) returns (λ c κs. search needs) rows-requires returns-2)
+    (tie.spec (λ c κs. search needs) returns (λ c κs. search needs) rows-requires returns-2)
