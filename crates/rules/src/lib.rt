@@ -23,7 +23,7 @@ pub fn size_right(img: &[u16], i: usize) -> bool
 }
 
 // No bit T or above, and no bit 0.
-fn fits(img: &[u16], set: u64) -> bool
+pub fn fits(img: &[u16], set: u64) -> bool
     requires { ⌜ Laid (now img) ⌝ }
     ensures { λ r. ⌜ r ≡ fits (now (img .entry)) set ⌝ }
 {

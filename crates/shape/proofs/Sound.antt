@@ -2,24 +2,25 @@
 use mathlib.Core.Path.{_≡_, refl, sym, ap, _∙_}
 use mathlib.Core.Bool.{Bool, true, false, _&&_}
 use mathlib.Core.List.{List}
-use Prim.Native.Nat.{ℕ, zero, suc, _+_, _*_, _-_, _/_, _%_, _<_, _≤_}
+use Prim.Native.Nat.{ℕ, zero, suc, _+_, _*_, _-_, _/_, _%_, _<_, _≤_, _^_}
 use native.Mathlib.Nat.{zero-add, mod-lt}
 use native.Mathlib.Omega.{arith}
-use lib.Dec.{eqb, leb}
+use lib.Bits.{bitOr, or-add-and, and-le-l, and-le-r}
+use lib.Dec.{eqb, leb, ltb}
 use lib.ListN.{length, getD, take, drop, length-drop}
 use lib.Seq.{length-take-le, getD-take, getD-drop}
-use borrow.Author.Tests.{eq-eqb, ne-eqb, le-leb, lt-ltb, eqb-true, eqb-false, leb-true}
-use Rattle.sets.specs.Sets.{member}
-use Rattle.sets.proofs.Laws.{out-lacks}
+use borrow.Author.Tests.{eq-eqb, ne-eqb, le-leb, lt-ltb, le-ltb, eqb-true, eqb-false, leb-true, ltb-true}
+use Rattle.sets.specs.Sets.{has, member, lacks, meet, isEmpty}
+use Rattle.sets.proofs.Laws.{out-lacks, has-or}
 use Rattle.numbers.specs.declared.Verdict.the-variants.{Good}
-use Rattle.shape.specs.declared.tables.Ruled.the-variants.{Act}
-use Rattle.pack.specs.Image.{word, terminals, productions, states, actStart, gotoStart, actAt, layout, act, actionOf}
+use Rattle.shape.specs.declared.tables.Ruled.the-variants.{Dom, Act, Scan}
+use Rattle.pack.specs.Image.{word, setWords, mostSymbols, setAt, terminals, productions, states, scanStates, domStart, actStart, gotoStart, scanStart, symbolAt, actAt, scanAt, rejAt, possAt, layout, dom, len, symbol, act, actionOf, acc, rej, poss}
 use Rattle.pack.specs.Laid.{Laid}
-use Rattle.shape.specs.Quick.{Above, sum, accept, greatest, strange, First, Shut}
+use Rattle.shape.specs.Quick.{Above, sum, accept, greatest, strange, First, Shut, Part, Parts}
 use Rattle.shape.specs.Rows.{rowRule}
-use Rattle.shape.specs.Shape.{rule, each, actRule, cellRule}
-use Rattle.rules.specs.Rules.{actRight}
-use Rattle.shape.proofs.Laws.{each-all}
+use Rattle.shape.specs.Shape.{rule, andThen, each, domRule, symbolRule, actRule, cellRule, scanRule}
+use Rattle.rules.specs.Rules.{fits, domRight, symbolRight, actRight, emptyAtStart, accRight, rejRight}
+use Rattle.shape.proofs.Laws.{both, each-all}
 use Rattle.shape.proofs.Sums.{sum-same, sum-rows, first, first-and, tight}
 
 -- A part of the image, by its words.
@@ -176,6 +177,96 @@ module _ (img : List ℕ) (start end : ℕ) (laid : Laid img) (es : start ≡ ac
 pub code-at : (img : List ℕ) (s t : ℕ) {at : ℕ} → at ≡ actAt img s t → word img at ≡ act img s t
 unfolding act
 code-at img s t e = rw e refl
+
+-- The symbols that a production does not use are right where all of them are 0.
+module _ (img : List ℕ) (p n start end : ℕ) {top : ℕ} (en : n ≡ len img p) (es : start ≡ symbolAt img p n) (ee : end ≡ symbolAt img p mostSymbols)
+    (le : end ≤ length img) (a : Above (take (end - start) (drop start img)) top) (z : top ≡ 0) (i : ℕ) (l : n ≤ i) (h : i < mostSymbols) where
+  unused-zero : symbol img p i ≡ 0
+  unfolding symbol
+  unused-zero =
+      let w : end - start ≡ mostSymbols - n = omega arith in
+      let b = rw w at a in
+      let place : start + (i - n) ≡ symbolAt img p i = omega arith in
+      let here = part-at img start (mostSymbols - n) (omega arith) (i - n) (omega arith) in
+      let none = b .each (i - n) (omega (arith, part-length img start (mostSymbols - n) (omega arith))) in
+      let s : word img (start + (i - n)) ≡ 0 = omega (arith, here, none) in
+      rw place at s
+
+  pub unused-good : symbolRule img p i ≡ Good
+  unfolding symbolRule rule
+  unused-good =
+      let r : symbolRight img p i ≡ true = simp (symbolRight, le-ltb i (len img p) (omega arith), eq-eqb (symbol img p i) 0 unused-zero) in
+      simp (symbolRule, rule, r)
+
+-- A set that is part of one that fits does too.
+or-left : (a b : ℕ) → a ≤ bitOr a b
+or-left a b = omega (arith, or-add-and a b, and-le-r a b)
+
+pub part-more : {set all : ℕ} (more : ℕ) → Part set all → Part set (bitOr all more)
+part-more {all = all} more p =
+    record { below = omega (arith, p .below, or-left all more); end = λ z. p .end (omega (arith, has-or all more 0)) }
+
+pub part-last : (all more : ℕ) → Part more (bitOr all more)
+part-last all more =
+    record { below = omega (arith, or-add-and all more, and-le-l all more); end = λ z. omega (arith, has-or all more 0) }
+
+part-fits : (img : List ℕ) (set all : ℕ) → Part set all → fits img all ≡ true → fits img set ≡ true
+unfolding fits lacks
+part-fits img set all p e =
+    let b = both (ltb all (2 ^ terminals img)) (eqb (has all 0) 0) e in
+    let h : all < 2 ^ terminals img = ltb-true _ _ (b .0) in
+    let l : set < 2 ^ terminals img = omega (arith, p .below) in
+    simp (fits, lacks, lt-ltb _ _ l, eq-eqb _ _ (p .end (eqb-true _ _ (b .1))), _&&_)
+
+-- The sets of dom, and those of the scan states.
+module _ (img : List ℕ) {all : ℕ} (f : fits img all ≡ true) where
+  pub doms-good : {n : ℕ} → n ≡ terminals img → Parts img domStart n all → domRight img 0 ≡ true
+      → ((t : ℕ) → t < terminals img → member (dom img t) t ≡ false) → each (rowRule img Dom) (terminals img) 0 ≡ Good
+  unfolding rowRule domRule domRight rule dom
+  doms-good en p first none = each-all (domRule img) (terminals img) 0 (λ t l. rw (zero-add t) (go t l))
+    where
+      go : (t : ℕ) → t < terminals img → domRule img t ≡ Good
+      go zero l = simp (domRule, rule, first)
+      go (suc t) l =
+          let s = part-fits img _ all (p .each (suc t) (omega arith)) f in
+          let r : domRight img (suc t) ≡ true = simp (domRight, ne-eqb (suc t) 0 (λ z. omega arith), s, out-lacks _ _ (none (suc t) l), _&&_) in
+          simp (domRule, rule, r)
+
+  pub scans-good : {start n : ℕ} → start ≡ scanStart img → n ≡ 3 * scanStates img → Parts img start n all → accRight img 0 ≡ true → rejRight img 0 ≡ true
+      → ((q : ℕ) → q < scanStates img → meet (acc img q) (rej img q) ≡ 0) → each (rowRule img Scan) (scanStates img) 0 ≡ Good
+  unfolding rowRule scanRule rule andThen emptyAtStart isEmpty acc rej poss
+  scans-good {start} {n} es en p first second apart = each-all (scanRule img) (scanStates img) 0 (λ q l. rw (zero-add q) (go q l))
+    where
+      set-fits : (q k : ℕ) → q < scanStates img → k < 3 → fits img (setAt img (start + (3 * q + k) * setWords)) ≡ true
+      set-fits q k l h = part-fits img _ all (p .each (3 * q + k) (omega arith)) f
+
+      acc-fits : (q : ℕ) → q < scanStates img → fits img (acc img q) ≡ true
+      acc-fits q l = let z : start + (3 * q + 0) * setWords ≡ scanAt img q = omega arith in rw z at (set-fits q 0 l (omega arith))
+
+      rej-fits : (q : ℕ) → q < scanStates img → fits img (rej img q) ≡ true
+      rej-fits q l = let z : start + (3 * q + 1) * setWords ≡ rejAt img q = omega arith in rw z at (set-fits q 1 l (omega arith))
+
+      poss-fits : (q : ℕ) → q < scanStates img → fits img (poss img q) ≡ true
+      poss-fits q l = let z : start + (3 * q + 2) * setWords ≡ possAt img q = omega arith in rw z at (set-fits q 2 l (omega arith))
+
+      acc-is : (q : ℕ) → q < scanStates img → accRight img q ≡ true
+      acc-is zero l = first
+      acc-is (suc q) l = simp (acc-fits (suc q) l, emptyAtStart, ne-eqb (suc q) 0 (λ z. omega arith), _&&_)
+
+      rej-is : (q : ℕ) → q < scanStates img → rejRight img q ≡ true
+      rej-is zero l = second
+      rej-is (suc q) l = simp (rej-fits (suc q) l, emptyAtStart, ne-eqb (suc q) 0 (λ z. omega arith), isEmpty, eq-eqb _ _ (apart (suc q) l), _&&_)
+
+      go : (q : ℕ) → q < scanStates img → scanRule img q ≡ Good
+      go q l = simp (scanRule, rule, andThen, acc-is q l, rej-is q l, poss-fits q l)
+
+-- Where the sets end.
+module _ (img : List ℕ) (laid : Laid img) where
+  pub doms-within : {n : ℕ} → n ≡ terminals img → domStart + n * setWords ≤ length img
+  doms-within e = omega (arith, laid .whole)
+
+  pub scans-within : {start n : ℕ} → start ≡ scanStart img → n ≡ 3 * scanStates img → start + n * setWords ≤ length img
+  scans-within e f = omega (arith, laid .whole)
 
 -- What is false is not true.
 pub not-true : {A : Type 0} → false ≡ true → A

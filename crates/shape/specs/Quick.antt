@@ -5,8 +5,8 @@ use mathlib.Core.List.{List}
 use Prim.Native.Nat.{ℕ, zero, suc, _+_, _*_, _%_, _<_, _≤_}
 use lib.Dec.{eqb, leb}
 use lib.ListN.{length, getD}
-use Rattle.sets.specs.Sets.{member}
-use Rattle.pack.specs.Image.{terminals, states, layout, act}
+use Rattle.sets.specs.Sets.{has, member}
+use Rattle.pack.specs.Image.{setWords, setAt, terminals, states, layout, act}
 
 -- No word is above the limit.
 pub record Above (words : List ℕ) (most : ℕ) : Type 0 where
@@ -37,3 +37,11 @@ pub record First (img : List ℕ) (most : ℕ) : Type 0 where
 -- A layout column has errors only.
 pub record Shut (img : List ℕ) : Type 0 where
   pub each : (t : ℕ) → t < terminals img → member (layout img) t ≡ true → (s : ℕ) → s < states img → act img s t ≡ 0
+
+-- A set is no greater number than another, and lacks the end of the text where that does; and so are n sets, the first at a place.
+pub record Part (set all : ℕ) : Type 0 where
+  pub below : set ≤ all
+  pub end : has all 0 ≡ 0 → has set 0 ≡ 0
+
+pub record Parts (img : List ℕ) (start n all : ℕ) : Type 0 where
+  pub each : (k : ℕ) → k < n → Part (setAt img (start + k * setWords)) all

@@ -20,7 +20,7 @@ fn parser_rules(img: &[u16]) -> Verdict
     if is_wrong(layout) {
         return layout;
     }
-    let dom = tables::rows(img, Ruled::Dom, image::terminals(img));
+    let dom = tables::doms(img);
     if is_wrong(dom) {
         return dom;
     }
@@ -48,7 +48,7 @@ fn scanner_rules(img: &[u16]) -> Verdict
     if is_wrong(moves) {
         return moves;
     }
-    let scan = tables::rows(img, Ruled::Scan, image::scan_states(img));
+    let scan = tables::scans(img);
     if is_wrong(scan) {
         return scan;
     }

@@ -6,12 +6,12 @@ ghost use mathlib.Core.Path.{_≡_};
 ghost use mathlib.Core.Bool.{true, false};
 ghost use Prim.Native.Nat.{ℕ, _+_, _*_, _%_, _<_, _≤_};
 ghost use lib.ListN.{length, getD};
-ghost use Rattle.sets.specs.Sets.{member};
+ghost use Rattle.sets.specs.Sets.{member, meet};
 ghost use Rattle.numbers.specs.declared.Verdict.the-variants.{Good};
-ghost use Rattle.shape.specs.declared.tables.Ruled.the-variants.{Act};
-ghost use Rattle.pack.specs.Image.{terminals, states, act};
+ghost use Rattle.shape.specs.declared.tables.Ruled.the-variants.{Dom, Act, Scan};
+ghost use Rattle.pack.specs.Image.{setWords, terminals, states, scanStates, dom, act, acc, rej};
 ghost use Rattle.pack.specs.Laid.{Laid};
-ghost use Rattle.shape.specs.Quick.{Above, sum, accept, greatest, strange, First, Shut};
+ghost use Rattle.shape.specs.Quick.{Above, sum, accept, greatest, strange, First, Shut, Parts};
 ghost use Rattle.shape.specs.Rows.{rowRule};
 ghost use Rattle.shape.specs.Shape.{each};
 
@@ -166,6 +166,84 @@ pub fn acts(img: &[u16]) -> bool
     let end = image::goto_start(img);
     if first_column(img, tally(&img[start..end], shifts, reductions)) {
         return layout_columns(img);
+    }
+    false
+}
+
+// What is in some of n sets, the first at a place.
+fn union(img: &[u16], start: usize, n: usize) -> u64
+    requires { ⌜ start + n * setWords ≤ length (now img) ⌝ }
+    ensures { λ r. ⌜ Parts (now (img .entry)) start n r ⌝ }
+{
+    let mut all: u64 = 0;
+    let mut k: usize = 0;
+    while k < n {
+        all = all | image::set_at(img, start + k * image::SET_WORDS);
+        k += 1;
+    }
+    all
+}
+
+// Whether no terminal outranks itself.
+fn none_itself(img: &[u16]) -> bool
+    requires { ⌜ Laid (now img) ⌝ }
+    ensures { λ r. ⌜ (r ≡ true → (t : ℕ) → t < terminals (now (img .entry)) → member (dom (now (img .entry)) t) t ≡ false) ⌝ }
+{
+    let n = image::terminals(img);
+    let mut t: usize = 0;
+    while t < n {
+        if sets::member(image::dom(img, t), t) {
+            return false;
+        }
+        t += 1;
+    }
+    true
+}
+
+// Whether every set of terminals that outrank another is right.
+pub fn doms(img: &[u16]) -> bool
+    requires { ⌜ Laid (now img) ⌝ }
+    ensures { λ r. ⌜ (r ≡ true → each (rowRule (now (img .entry)) Dom) (terminals (now (img .entry))) 0 ≡ Good) ⌝ }
+{
+    if rules::fits(img, union(img, image::DOM_START, image::terminals(img))) {
+        if rules::dom_right(img, 0) {
+            return none_itself(img);
+        }
+    }
+    false
+}
+
+// Whether no scan state accepts what it rejects.
+fn all_apart(img: &[u16]) -> bool
+    requires { ⌜ Laid (now img) ⌝ }
+    ensures { λ r. ⌜ (r ≡ true → (q : ℕ) → q < scanStates (now (img .entry)) → meet (acc (now (img .entry)) q) (rej (now (img .entry)) q) ≡ 0) ⌝ }
+{
+    let n = image::scan_states(img);
+    let mut q: usize = 0;
+    while q < n {
+        if image::acc(img, q) & image::rej(img, q) == 0 {
+            q += 1;
+        } else {
+            return false;
+        }
+    }
+    true
+}
+
+// Whether the sets of every scan state are right.
+pub fn scans(img: &[u16]) -> bool
+    requires { ⌜ Laid (now img) ⌝ }
+    ensures { λ r. ⌜ (r ≡ true → each (rowRule (now (img .entry)) Scan) (scanStates (now (img .entry))) 0 ≡ Good) ⌝ }
+{
+    if rules::fits(
+        img,
+        union(img, image::scan_start(img), 3 * image::scan_states(img)),
+    ) {
+        if rules::acc_right(img, 0) {
+            if rules::rej_right(img, 0) {
+                return all_apart(img);
+            }
+        }
     }
     false
 }

@@ -5,11 +5,12 @@ use numbers::Verdict;
 use numbers::is_wrong;
 use pack::image;
 ghost use mathlib.Core.Path.{_≡_};
-ghost use Prim.Native.Nat.{_+_, _<_, _≤_};
+ghost use Prim.Native.Nat.{ℕ, _+_, _<_, _≤_};
 ghost use lib.ListN.{length};
 ghost use Rattle.pack.specs.Image.{headWords, sizeWords, mostSymbols, terminals, productions, states, scanStates, ranges, groups};
 ghost use Rattle.pack.specs.Laid.{Laid};
-ghost use Rattle.shape.specs.declared.tables.Ruled.the-variants.{Act};
+ghost use Rattle.numbers.specs.declared.Verdict.the-variants.{Good};
+ghost use Rattle.shape.specs.declared.tables.Ruled.the-variants.{Dom, Act, Scan};
 ghost use Rattle.shape.specs.Rows.{rowRule, rowsOf};
 ghost use Rattle.shape.specs.Shape.{rule, each, sizeRule, headRules, layoutRule, domRule, symbolRule, prodRule, actRule, cellRule, gotoRules, rangeRule, moveRules, scanRule, groupRule};
 
@@ -91,14 +92,34 @@ fn symbol_rule(img: &[u16], p: usize, i: usize) -> Verdict
     rule(rules::symbol_right(img, p, i), image::symbol_at(img, p, i))
 }
 
+// How many symbols of a production have to be looked at: all after them are unused and 0.
+fn to_look_at(img: &[u16], p: usize) -> usize
+    requires { ⌜ Laid (now img) ⌝ }
+    requires { ⌜ p < productions (now img) ⌝ }
+    ensures { λ r. ⌜ (r ≤ mostSymbols) × ((i : ℕ) → r ≤ i → i < mostSymbols → symbolRule (now (img .entry)) p i ≡ Good) ⌝ }
+{
+    let used = image::len(img, p);
+    if image::MOST_SYMBOLS < used {
+        return image::MOST_SYMBOLS;
+    }
+    let at = image::prod_at(img, p);
+    let start = at + 2 + used;
+    let end = at + image::PRODUCTION_WORDS;
+    if quick::largest(&img[start..end]) == 0 {
+        return used;
+    }
+    image::MOST_SYMBOLS
+}
+
 // The symbols of a production, used and unused.
 fn symbols(img: &[u16], p: usize) -> Verdict
     requires { ⌜ Laid (now img) ⌝ }
     requires { ⌜ p < productions (now img) ⌝ }
     ensures { λ r. ⌜ r ≡ each (symbolRule (now (img .entry)) p) mostSymbols 0 ⌝ }
 {
+    let n = to_look_at(img, p);
     let mut i: usize = 0;
-    while i < image::MOST_SYMBOLS {
+    while i < n {
         let v = symbol_rule(img, p, i);
         if is_wrong(v) {
             return v;
@@ -229,6 +250,27 @@ pub fn rows(img: &[u16], table: Ruled, n: usize) -> Verdict
         i += 1;
     }
     Verdict::Good
+}
+
+// The tables that have a quick pass.
+pub fn doms(img: &[u16]) -> Verdict
+    requires { ⌜ Laid (now img) ⌝ }
+    ensures { λ r. ⌜ r ≡ each (rowRule (now (img .entry)) Dom) (terminals (now (img .entry))) 0 ⌝ }
+{
+    if quick::doms(img) {
+        return Verdict::Good;
+    }
+    rows(img, Ruled::Dom, image::terminals(img))
+}
+
+pub fn scans(img: &[u16]) -> Verdict
+    requires { ⌜ Laid (now img) ⌝ }
+    ensures { λ r. ⌜ r ≡ each (rowRule (now (img .entry)) Scan) (scanStates (now (img .entry))) 0 ⌝ }
+{
+    if quick::scans(img) {
+        return Verdict::Good;
+    }
+    rows(img, Ruled::Scan, image::scan_states(img))
 }
 
 pub fn acts(img: &[u16]) -> Verdict

@@ -1,4 +1,5 @@
 use borrow.Author.Needs.{needs}
+use mathlib.Core.Path.{refl}
 use native.Mathlib.Omega.{arith}
 use Rattle.shape.specs.Rows.{rowsOf}
 use Rattle.shape.proofs.Laws.{scanner-1, scanner-2, scanner-3, scanner-4}
@@ -22,37 +23,33 @@ returns-2 c =
     scanner-2 _ (a .rows .ensures) (a .before .ranges .ensures) (i .before .is-wrong .ensures) (i .if1 .left) (b .moves .ensures)
     (c .before .is-wrong2 .ensures) (c .if2 .taken)
 
-rows-requires-2 : tie.Need-rows-requires-2
-unfolding rowsOf
-rows-requires-2 c κs = (search needs, omega (arith, c .scan-states .ensures))
-
 returns-3 : tie.Need-returns-3
 returns-3 c =
     let d = c .before .before in
-    let j = d .before .before in
+    let j = d .before in
     let b = j .before .before in
     let i = b .before in
     let a = i .before .before in
     scanner-3 _ (a .rows .ensures) (a .before .ranges .ensures) (i .before .is-wrong .ensures) (i .if1 .left) (b .moves .ensures)
-    (j .before .is-wrong2 .ensures) (j .if2 .left) (d .rows2 .ensures) (d .before .scan-states .ensures) (c .before .is-wrong3 .ensures) (c .if3 .taken)
+    (j .before .is-wrong2 .ensures) (j .if2 .left) (d .scans .ensures) refl (c .before .is-wrong3 .ensures) (c .if3 .taken)
 
-rows-requires-3 : tie.Need-rows-requires-3
+rows-requires-2 : tie.Need-rows-requires-2
 unfolding rowsOf
-rows-requires-3 c κs = (search needs, omega (arith, c .groups .ensures))
+rows-requires-2 c κs = (search needs, omega (arith, c .groups .ensures))
 
 returns-4 : tie.Need-returns-4
 returns-4 c =
     let k = c .before .before in
     let d = k .before .before in
-    let j = d .before .before in
+    let j = d .before in
     let b = j .before .before in
     let i = b .before in
     let a = i .before .before in
     scanner-4 _ (a .rows .ensures) (a .before .ranges .ensures) (i .before .is-wrong .ensures) (i .if1 .left) (b .moves .ensures)
-    (j .before .is-wrong2 .ensures) (j .if2 .left) (d .rows2 .ensures) (d .before .scan-states .ensures) (k .before .is-wrong3 .ensures) (k .if3 .left)
-    (c .rows3 .ensures) (c .before .groups .ensures)
+    (j .before .is-wrong2 .ensures) (j .if2 .left) (d .scans .ensures) refl (k .before .is-wrong3 .ensures) (k .if3 .left)
+    (c .rows2 .ensures) (c .before .groups .ensures)
 
 pub scanner-rules-spec : {M : Type 1} → statement M
 scanner-rules-spec =
     tie.close
-    (tie.spec (λ c κs. search needs) rows-requires (λ c κs. search needs) returns (λ c κs. search needs) (λ c κs. search needs) returns-2 (λ c κs. search needs) rows-requires-2 (λ c κs. search needs) returns-3 (λ c κs. search needs) rows-requires-3 returns-4)
+    (tie.spec (λ c κs. search needs) rows-requires (λ c κs. search needs) returns (λ c κs. search needs) (λ c κs. search needs) returns-2 (λ c κs. search needs) (λ c κs. search needs) returns-3 (λ c κs. search needs) rows-requires-2 returns-4)
