@@ -10,13 +10,13 @@ use lib.Dec.{eqb, leb, ltb}
 use lib.ListN.{length, getD, take, drop, length-drop}
 use lib.Seq.{length-take-le, getD-take, getD-drop}
 use borrow.Author.Tests.{eq-eqb, ne-eqb, le-leb, lt-ltb, le-ltb, eqb-true, eqb-false, leb-true, ltb-true}
-use Rattle.sets.specs.Sets.{has, member, lacks, meet, isEmpty}
+use Rattle.sets.specs.Sets.{has, member, lacks, isEmpty}
 use Rattle.sets.proofs.Laws.{out-lacks, has-or}
 use Rattle.numbers.specs.declared.Verdict.the-variants.{Good}
 use Rattle.shape.specs.declared.tables.Ruled.the-variants.{Dom, Act, Scan}
 use Rattle.pack.specs.Image.{word, setWords, mostSymbols, setAt, terminals, productions, states, scanStates, domStart, actStart, gotoStart, scanStart, symbolAt, actAt, scanAt, rejAt, possAt, layout, dom, len, symbol, act, actionOf, acc, rej, poss}
 use Rattle.pack.specs.Laid.{Laid}
-use Rattle.shape.specs.Quick.{Above, sum, accept, greatest, strange, First, Shut, Part, Parts}
+use Rattle.shape.specs.Quick.{Above, sum, accept, greatest, strange, First, Shut, Part, Parts, Apart}
 use Rattle.shape.specs.Rows.{rowRule}
 use Rattle.shape.specs.Shape.{rule, andThen, each, domRule, symbolRule, actRule, cellRule, scanRule}
 use Rattle.rules.specs.Rules.{fits, domRight, symbolRight, actRight, emptyAtStart, accRight, rejRight}
@@ -66,7 +66,8 @@ module _ (shifts reductions code : ℕ) where
   unfolding accept strange
   accept-strange = go (eqb code 1) refl (leb code (greatest shifts reductions code)) refl
     where
-      go : (a : Bool) → eqb code 1 ≡ a → (b : Bool) → leb code (greatest shifts reductions code) ≡ b → accept code ≤ strange shifts reductions code
+      go : (a : Bool) → eqb code 1 ≡ a → (b : Bool) → leb code (greatest shifts reductions code) ≡ b
+          → accept code ≤ strange shifts reductions code
       go a e true f = simp (strange, f) (omega arith)
       go true e false f = simp (strange, accept, e, f) (omega arith)
       go false e false f = simp (strange, accept, e, f) (omega arith)
@@ -98,8 +99,8 @@ module _ (img : List ℕ) (t code : ℕ) (shut : member (layout img) t ≡ true 
   unfolding actRight actionOf
   code-right = go (eqb code 0) refl (eqb code 1) refl (member (layout img) t) refl (eqb ((code - 2) % 2) 0) refl
     where
-      go : (a : Bool) → eqb code 0 ≡ a → (b : Bool) → eqb code 1 ≡ b → (m : Bool) → member (layout img) t ≡ m → (c : Bool) → eqb ((code - 2) % 2) 0 ≡ c
-          → actRight img t (actionOf code) ≡ true
+      go : (a : Bool) → eqb code 0 ≡ a → (b : Bool) → eqb code 1 ≡ b → (m : Bool) → member (layout img) t ≡ m → (c : Bool)
+          → eqb ((code - 2) % 2) 0 ≡ c → actRight img t (actionOf code) ≡ true
       go true ea b eb m em c ec = simp (actionOf, ea, actRight)
       go false ea true eb m em c ec = simp (actionOf, ea, eb, actRight, eq-eqb t 0 (accepts (eqb-true _ _ eb)))
       go false ea false eb true em c ec = absurd (eqb-false code 0 ea (shut em))
@@ -120,8 +121,14 @@ module _ (img : List ℕ) (t code : ℕ) (shut : member (layout img) t ≡ true 
 
 -- The action table is right where its layout columns are shut, column 0 has no shift, and no more codes are strange than accept there.
 module _ (img : List ℕ) (laid : Laid img) (shut : Shut img) where
+  abbrev flaw : ℕ → ℕ
+  flaw x = strange (states img * 2) (productions img * 2 + 1) x
+
   abbrev code : ℕ → ℕ → ℕ
-  code s t = strange (states img * 2) (productions img * 2 + 1) (act img s t)
+  code s t = flaw (act img s t)
+
+  abbrev cells : ℕ
+  cells = states img * terminals img
 
   module _ (most : (s : ℕ) → s < states img → sum (code s) (terminals img) ≤ accept (act img s 0))
       (no-shift : (s : ℕ) → s < states img → act img s 0 % 2 ≡ 0 → act img s 0 ≡ 0) (s : ℕ) (ls : s < states img) where
@@ -133,35 +140,48 @@ module _ (img : List ℕ) (laid : Laid img) (shut : Shut img) where
         omega (arith, most s ls, first (code s) (terminals img) (omega arith)))
     cell-right (suc t) l =
         let z : code s (suc t) ≡ 0 =
-        omega (arith, most s ls, first-and (code s) (terminals img) (suc t) (omega arith) l, accept-strange (states img * 2) (productions img * 2 + 1) (act img s 0)) in
+        omega (
+          arith,
+          most s ls,
+          first-and (code s) (terminals img) (suc t) (omega arith) l,
+          accept-strange (states img * 2) (productions img * 2 + 1) (act img s 0),
+        ) in
         code-right img (suc t) (act img s (suc t)) (λ m. shut .each (suc t) l m s ls) (λ e. absurd (omega arith))
         (λ e. absurd (usual-accept _ _ _ z e)) (λ n. z)
 
-  pub acts-good : (start end : ℕ) {shifts reductions most : ℕ} → start ≡ actStart img → end ≡ gotoStart img → shifts ≡ states img * 2 → reductions ≡ productions img * 2 + 1
-      → most ≡ sum (λ i. strange shifts reductions (getD (take (end - start) (drop start img)) i 0)) (length (take (end - start) (drop start img)))
-      → First img most → each (rowRule img Act) (states img) 0 ≡ Good
+  pub acts-good : (start end : ℕ) {shifts reductions most : ℕ} → start ≡ actStart img → end ≡ gotoStart img → shifts ≡ states img * 2
+      → reductions ≡ productions img * 2 + 1
+      → most ≡ sum (λ i. strange shifts reductions (getD (take (end - start) (drop start img)) i 0))
+      (length (take (end - start) (drop start img))) → First img most → each (rowRule img Act) (states img) 0 ≡ Good
   unfolding rowRule actRule rule act
-  acts-good start end es ee eh er em f = each-all _ (states img) 0 (λ s ls. rw (zero-add s) (each-all (actRule img s) (terminals img) 0 (λ t lt. rw (zero-add t) (go s ls t lt))))
+  acts-good start end es ee eh er em f = each-all _ (states img) 0 (λ s ls. rw (zero-add s) (row s ls))
     where
-      long : actStart img + states img * terminals img ≤ length img
+      long : actStart img + cells ≤ length img
       long = omega (arith, laid .whole)
 
-      whole : sum (λ i. strange (states img * 2) (productions img * 2 + 1) (word img (actStart img + i))) (states img * terminals img) ≤ sum (λ s. accept (act img s 0)) (states img)
+      whole : sum (λ i. flaw (word img (actStart img + i))) cells ≤ sum (λ s. accept (act img s 0)) (states img)
       whole =
-          let z : end - start ≡ states img * terminals img = omega arith in
-          let a = rw (z, es, eh, er, part-length img (actStart img) (states img * terminals img) long) at em in
-          let b = a ∙ sum-same _ (λ i. strange (states img * 2) (productions img * 2 + 1) (word img (actStart img + i))) (states img * terminals img)
-          (λ i l. ap (λ (x : ℕ). strange (states img * 2) (productions img * 2 + 1) x) (part-at img (actStart img) (states img * terminals img) long i l)) in
+          let z : end - start ≡ cells = omega arith in
+          let a = rw (z, es, eh, er, part-length img (actStart img) cells long) at em in
+          let b = a ∙ sum-same _ (λ i. flaw (word img (actStart img + i))) cells
+          (λ i l. ap (λ (x : ℕ). flaw x) (part-at img (actStart img) cells long i l)) in
           rw b at (f .accepts)
 
       most-of : (s : ℕ) → s < states img → sum (code s) (terminals img) ≤ accept (act img s 0)
       most-of =
           tight (λ s. accept (act img s 0)) (λ s. sum (code s) (terminals img)) (states img)
-          (λ s l. omega (arith, accept-strange (states img * 2) (productions img * 2 + 1) (act img s 0), first (code s) (terminals img) (omega arith)))
-          (rw (sum-rows (λ i. strange (states img * 2) (productions img * 2 + 1) (word img (actStart img + i))) (terminals img) (states img)) at whole)
+          (λ s l. omega (
+            arith,
+            accept-strange (states img * 2) (productions img * 2 + 1) (act img s 0),
+            first (code s) (terminals img) (omega arith),
+          ))
+          (rw (sum-rows (λ i. flaw (word img (actStart img + i))) (terminals img) (states img)) at whole)
 
       go : (s : ℕ) → s < states img → (t : ℕ) → t < terminals img → actRule img s t ≡ Good
       go s ls t lt = let r = cell-right most-of (f .no-shift) s ls t lt in simp (actRule, rule, r)
+
+      row : (s : ℕ) → s < states img → each (actRule img s) (terminals img) 0 ≡ Good
+      row s ls = each-all (actRule img s) (terminals img) 0 (λ t lt. rw (zero-add t) (go s ls t lt))
 
 -- The action table is within the image, and has fewer words than a word can count.
 module _ (img : List ℕ) (start end : ℕ) (laid : Laid img) (es : start ≡ actStart img) (ee : end ≡ gotoStart img) where
@@ -179,8 +199,9 @@ unfolding act
 code-at img s t e = rw e refl
 
 -- The symbols that a production does not use are right where all of them are 0.
-module _ (img : List ℕ) (p n start end : ℕ) {top : ℕ} (en : n ≡ len img p) (es : start ≡ symbolAt img p n) (ee : end ≡ symbolAt img p mostSymbols)
-    (le : end ≤ length img) (a : Above (take (end - start) (drop start img)) top) (z : top ≡ 0) (i : ℕ) (l : n ≤ i) (h : i < mostSymbols) where
+module _ (img : List ℕ) (p n start end : ℕ) {top : ℕ} (en : n ≡ len img p) (es : start ≡ symbolAt img p n)
+    (ee : end ≡ symbolAt img p mostSymbols) (le : end ≤ length img) (a : Above (take (end - start) (drop start img)) top) (z : top ≡ 0)
+    (i : ℕ) (l : n ≤ i) (h : i < mostSymbols) where
   unused-zero : symbol img p i ≡ 0
   unfolding symbol
   unused-zero =
@@ -229,11 +250,12 @@ module _ (img : List ℕ) {all : ℕ} (f : fits img all ≡ true) where
       go zero l = simp (domRule, rule, first)
       go (suc t) l =
           let s = part-fits img _ all (p .each (suc t) (omega arith)) f in
-          let r : domRight img (suc t) ≡ true = simp (domRight, ne-eqb (suc t) 0 (λ z. omega arith), s, out-lacks _ _ (none (suc t) l), _&&_) in
+          let r : domRight img (suc t) ≡ true =
+          simp (domRight, ne-eqb (suc t) 0 (λ z. omega arith), s, out-lacks _ _ (none (suc t) l), _&&_) in
           simp (domRule, rule, r)
 
-  pub scans-good : {start n : ℕ} → start ≡ scanStart img → n ≡ 3 * scanStates img → Parts img start n all → accRight img 0 ≡ true → rejRight img 0 ≡ true
-      → ((q : ℕ) → q < scanStates img → meet (acc img q) (rej img q) ≡ 0) → each (rowRule img Scan) (scanStates img) 0 ≡ Good
+  pub scans-good : {start n : ℕ} → start ≡ scanStart img → n ≡ 3 * scanStates img → Parts img start n all → accRight img 0 ≡ true
+      → rejRight img 0 ≡ true → Apart img → each (rowRule img Scan) (scanStates img) 0 ≡ Good
   unfolding rowRule scanRule rule andThen emptyAtStart isEmpty acc rej poss
   scans-good {start} {n} es en p first second apart = each-all (scanRule img) (scanStates img) 0 (λ q l. rw (zero-add q) (go q l))
     where
@@ -255,7 +277,7 @@ module _ (img : List ℕ) {all : ℕ} (f : fits img all ≡ true) where
 
       rej-is : (q : ℕ) → q < scanStates img → rejRight img q ≡ true
       rej-is zero l = second
-      rej-is (suc q) l = simp (rej-fits (suc q) l, emptyAtStart, ne-eqb (suc q) 0 (λ z. omega arith), isEmpty, eq-eqb _ _ (apart (suc q) l), _&&_)
+      rej-is (suc q) l = simp (rej-fits (suc q) l, emptyAtStart, ne-eqb (suc q) 0 (λ z. omega arith), isEmpty, eq-eqb _ _ (apart .each (suc q) l), _&&_)
 
       go : (q : ℕ) → q < scanStates img → scanRule img q ≡ Good
       go q l = simp (scanRule, rule, andThen, acc-is q l, rej-is q l, poss-fits q l)

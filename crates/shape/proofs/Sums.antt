@@ -48,7 +48,9 @@ first-and f zero t m l = absurd (not-suc-le-zero l)
 first-and f (suc n) t m l = go (first-and f n)
   where
     go : ((u : ℕ) → 1 ≤ u → u < n → f 0 + f u ≤ sum f n) → f 0 + f t ≤ sum f n + f n
-    go ih = below-more (λ j. 1 ≤ j → f 0 + f j ≤ sum f n + f n) n (λ j h k. omega (arith, ih j k h)) (λ k. omega (arith, term f n 0 k)) t (omega arith) m
+    go ih =
+        below-more (λ j. 1 ≤ j → f 0 + f j ≤ sum f n + f n) n (λ j h k. omega (arith, ih j k h)) (λ k. omega (arith, term f n 0 k)) t
+        (omega arith) m
 
 pub first : (f : ℕ → ℕ) (n : ℕ) → 1 ≤ n → f 0 ≤ sum f n
 first f n l = term f n 0 l

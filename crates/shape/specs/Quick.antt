@@ -5,8 +5,8 @@ use mathlib.Core.List.{List}
 use Prim.Native.Nat.{ℕ, zero, suc, _+_, _*_, _%_, _<_, _≤_}
 use lib.Dec.{eqb, leb}
 use lib.ListN.{length, getD}
-use Rattle.sets.specs.Sets.{has, member}
-use Rattle.pack.specs.Image.{setWords, setAt, terminals, states, layout, act}
+use Rattle.sets.specs.Sets.{has, member, meet}
+use Rattle.pack.specs.Image.{setWords, setAt, terminals, states, scanStates, layout, act, acc, rej}
 
 -- No word is above the limit.
 pub record Above (words : List ℕ) (most : ℕ) : Type 0 where
@@ -45,3 +45,7 @@ pub record Part (set all : ℕ) : Type 0 where
 
 pub record Parts (img : List ℕ) (start n all : ℕ) : Type 0 where
   pub each : (k : ℕ) → k < n → Part (setAt img (start + k * setWords)) all
+
+-- No scan state accepts what it rejects.
+pub record Apart (img : List ℕ) : Type 0 where
+  pub each : (q : ℕ) → q < scanStates img → meet (acc img q) (rej img q) ≡ 0

@@ -6,12 +6,12 @@ ghost use mathlib.Core.Path.{_≡_};
 ghost use mathlib.Core.Bool.{true, false};
 ghost use Prim.Native.Nat.{ℕ, _+_, _*_, _%_, _<_, _≤_};
 ghost use lib.ListN.{length, getD};
-ghost use Rattle.sets.specs.Sets.{member, meet};
+ghost use Rattle.sets.specs.Sets.{member};
 ghost use Rattle.numbers.specs.declared.Verdict.the-variants.{Good};
 ghost use Rattle.shape.specs.declared.tables.Ruled.the-variants.{Dom, Act, Scan};
-ghost use Rattle.pack.specs.Image.{setWords, terminals, states, scanStates, dom, act, acc, rej};
+ghost use Rattle.pack.specs.Image.{setWords, terminals, states, scanStates, dom, act};
 ghost use Rattle.pack.specs.Laid.{Laid};
-ghost use Rattle.shape.specs.Quick.{Above, sum, accept, greatest, strange, First, Shut, Parts};
+ghost use Rattle.shape.specs.Quick.{Above, sum, accept, greatest, strange, First, Shut, Parts, Apart};
 ghost use Rattle.shape.specs.Rows.{rowRule};
 ghost use Rattle.shape.specs.Shape.{each};
 
@@ -216,7 +216,7 @@ pub fn doms(img: &[u16]) -> bool
 // Whether no scan state accepts what it rejects.
 fn all_apart(img: &[u16]) -> bool
     requires { ⌜ Laid (now img) ⌝ }
-    ensures { λ r. ⌜ (r ≡ true → (q : ℕ) → q < scanStates (now (img .entry)) → meet (acc (now (img .entry)) q) (rej (now (img .entry)) q) ≡ 0) ⌝ }
+    ensures { λ r. ⌜ (r ≡ true → Apart (now (img .entry))) ⌝ }
 {
     let n = image::scan_states(img);
     let mut q: usize = 0;

@@ -34,7 +34,8 @@ returns c =
     let a = e .before in
     let p = a .before in
     λ x. acts-good _ (p .before .before .before .pre) (c .layout-columns .ensures x) _ _ (a .act-start .ensures) (e .goto-start .ensures)
-    (omega (arith, p .before .states .ensures)) (omega (arith, p .productions .ensures)) (t .tally .ensures) (f .first-column .ensures (c .before .if1 .taken))
+    (omega (arith, p .before .states .ensures)) (omega (arith, p .productions .ensures)) (t .tally .ensures)
+    (f .first-column .ensures (c .before .if1 .taken))
 
 returns-2 : tie.Need-returns-2
 returns-2 c = λ e. not-true e

@@ -30,7 +30,7 @@ returns : tie.Need-returns Inv-loop μ-loop
 returns c = λ e. not-true e
 
 returns-2 : tie.Need-returns-2 Inv-loop μ-loop
-returns-2 c = let v = c .before .loop .inv in λ e q l. v .2 q (omega (arith, v .1, c .loop-test .left))
+returns-2 c = let v = c .before .loop .inv in λ e. record { each = λ q l. v .2 q (omega (arith, v .1, c .loop-test .left)) }
 
 pub all-apart-spec : {M : Type 1} → statement M
 all-apart-spec =

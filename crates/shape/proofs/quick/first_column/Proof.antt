@@ -15,7 +15,8 @@ use Rattle.shape.proofs.quick.first_column.Tie as tie
 
 abbrev Inv-loop : tie.InvT-loop
 Inv-loop img most rows n₀ s₀ n s =
-    (s ≤ rows) × (rows ≡ states img) × (n ≤ s) × (n ≡ sum (λ j. accept (act img j 0)) s) × ((j : ℕ) → j < s → act img j 0 % 2 ≡ 0 → act img j 0 ≡ 0)
+    (s ≤ rows) × (rows ≡ states img) × (n ≤ s) × (n ≡ sum (λ j. accept (act img j 0)) s)
+    × ((j : ℕ) → j < s → act img j 0 % 2 ≡ 0 → act img j 0 ≡ 0)
 
 abbrev μ-loop : tie.MeasureT-loop
 μ-loop img most rows n₀ s₀ n s = rows - s
@@ -44,7 +45,10 @@ loop-again c =
 returns-2 : tie.Need-returns-2 Inv-loop μ-loop
 returns-2 c =
     let v = c .before .loop .inv in
-    λ e. record { no-shift = λ s l. v .4 s (omega (arith, v .1, c .loop-test .left)); accepts = sum-reaches _ _ _ (v .3) (omega (arith, v .0, v .1, c .loop-test .left)) (leb-true _ _ e) }
+    λ e. record {
+      no-shift = λ s l. v .4 s (omega (arith, v .1, c .loop-test .left));
+      accepts = sum-reaches _ _ _ (v .3) (omega (arith, v .0, v .1, c .loop-test .left)) (leb-true _ _ e);
+    }
 
 pub first-column-spec : {M : Type 1} → statement M
 first-column-spec =

@@ -29,7 +29,8 @@ loop-again : tie.Need-loop-again Inv-loop μ-loop
 loop-again c =
     let l = c .before .before in
     let v = l .before .loop .inv in
-    (omega (arith, l .loop-test .taken), v .1, v .2, below-more _ _ (v .3) (λ m. c .before .right-column .ensures (c .if1 .taken) (rw (v .1) m)))
+    let r = c .before .right-column .ensures (c .if1 .taken) in
+    (omega (arith, l .loop-test .taken), v .1, v .2, below-more _ _ (v .3) (λ m. r (rw (v .1) m)))
 
 returns : tie.Need-returns Inv-loop μ-loop
 returns c = λ e. not-true e

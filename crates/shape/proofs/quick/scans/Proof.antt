@@ -6,7 +6,8 @@ use Rattle.shape.proofs.quick.scans.Statement.{statement}
 use Rattle.shape.proofs.quick.scans.Tie as tie
 
 union-requires : tie.Need-union-requires
-union-requires c κs = scans-within _ (c .before .before .before .pre) (c .before .scan-start .ensures) (omega (arith, c .scan-states .ensures))
+union-requires c κs =
+    scans-within _ (c .before .before .before .pre) (c .before .scan-start .ensures) (omega (arith, c .scan-states .ensures))
 
 returns : tie.Need-returns
 returns c =
@@ -14,7 +15,8 @@ returns c =
     let a = r .before .before in
     let f = a .before .before in
     let u = f .before in
-    λ e. scans-good _ (sym (f .fits2 .ensures) ∙ a .before .if1 .taken) (u .before .before .scan-start .ensures) (omega (arith, u .before .scan-states .ensures)) (u .union .ensures)
+    λ e. scans-good _ (sym (f .fits2 .ensures) ∙ a .before .if1 .taken) (u .before .before .scan-start .ensures) (omega (arith, u .before .scan-states .ensures))
+    (u .union .ensures)
     (sym (a .acc-right .ensures) ∙ r .before .if2 .taken) (sym (r .rej-right .ensures) ∙ c .before .if3 .taken) (c .all-apart .ensures e)
 
 returns-2 : tie.Need-returns-2

@@ -22,7 +22,10 @@ loop-holds c = (search needs, λ j h. absurd (not-suc-le-zero h))
 loop-again : tie.Need-loop-again Inv-loop μ-loop
 loop-again c =
     let l = c .before in
-    (search needs, below-more _ _ (λ j h. part-more (c .set-at .result) (l .before .loop .inv .1 j h)) (rw (← c .set-at .ensures) (part-last (l .before .loop .all) (c .set-at .result))))
+    let x = c .set-at .result in (
+      search needs,
+      below-more _ _ (λ j h. part-more x (l .before .loop .inv .1 j h)) (rw (← c .set-at .ensures) (part-last (l .before .loop .all) x)),
+    )
 
 returns : tie.Need-returns Inv-loop μ-loop
 returns c = let v = c .before .loop .inv in record { each = λ k h. v .1 k (omega (arith, c .loop-test .left)) }

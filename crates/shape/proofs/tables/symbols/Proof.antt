@@ -25,14 +25,16 @@ returns c =
     let v = c .before .before in
     let l = v .before in
     let k = l .before .loop .inv in
-    sym (k .2 ∙ each-hit _ mostSymbols _ (omega (arith, l .loop-test .taken, k .1)) _ (v .symbol-rule .ensures) (sym (c .before .is-wrong .ensures) ∙ c .if1 .taken))
+    sym (k .2 ∙ each-hit _ mostSymbols _ (omega (arith, l .loop-test .taken, k .1)) _ (v .symbol-rule .ensures)
+    (sym (c .before .is-wrong .ensures) ∙ c .if1 .taken))
 
 loop-again : tie.Need-loop-again Inv-loop μ-loop
 loop-again c =
     let v = c .before .before in
     let l = v .before in
     let k = l .before .loop .inv in
-    (search needs, k .1, k .2 ∙ each-on _ mostSymbols _ (omega (arith, l .loop-test .taken, k .1)) _ (v .symbol-rule .ensures) (sym (c .before .is-wrong .ensures) ∙ c .if1 .left), k .3)
+    let w = sym (c .before .is-wrong .ensures) ∙ c .if1 .left in
+    (search needs, k .1, k .2 ∙ each-on _ mostSymbols _ (omega (arith, l .loop-test .taken, k .1)) _ (v .symbol-rule .ensures) w, k .3)
 
 returns-2 : tie.Need-returns-2 Inv-loop μ-loop
 returns-2 c =

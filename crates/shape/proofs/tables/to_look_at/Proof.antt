@@ -15,8 +15,8 @@ returns-2 c =
     let a = g .before .before in
     let n = a .before .before in (
       omega (arith, a .before .if1 .left),
-      unused-good _ _ _ (a .prod-at .result + 2 + n .len .result) (a .prod-at .result + productionWords) (n .len .ensures) (omega (arith, a .prod-at .ensures .0)) (omega (arith, a .prod-at .ensures .0))
-          (omega (arith, a .prod-at .ensures .1)) (g .largest .ensures) (c .if2 .taken),
+      unused-good _ _ _ (a .prod-at .result + 2 + n .len .result) (a .prod-at .result + productionWords) (n .len .ensures)
+          (omega (arith, a .prod-at .ensures .0)) (omega (arith, a .prod-at .ensures .0)) (omega (arith, a .prod-at .ensures .1)) (g .largest .ensures) (c .if2 .taken),
     )
 
 returns-3 : tie.Need-returns-3
