@@ -1,6 +1,6 @@
 -- The parts of a line, rows and lines: what a cursor stands for after each, over plain variables.
 use mathlib.Core.Path.{_≡_, refl, sym, ap, _∙_}
-use mathlib.Core.Bool.{true, false}
+use mathlib.Core.Bool.{Bool, true, false}
 use mathlib.Core.List.{List, [], _∷_, _++_, append-assoc, append-nil}
 use Prim.Native.Nat.{ℕ, zero, suc, _+_, _*_, _-_, _<_, _≤_}
 use native.Mathlib.Nat.{suc-mul}
@@ -8,21 +8,24 @@ use native.Mathlib.Numerals.{add-one, sub-one}
 use native.Mathlib.Omega.{arith}
 use lib.ListN.{length, getD, take, drop, set, length-append, drop-of-length-le}
 use lib.Seq.{drop-cons, take-at, sets, sets-eq, length-take-le, take-suc-set, drop-drop}
-use borrow.Author.Tests.{eq-eqb, ne-eqb}
-use Rattle.pack.specs.Image.{groupWords, mostSymbols, productionWords, setWords}
+use lib.Dec.{eqb, leb}
+use borrow.Author.Tests.{eq-eqb, ne-eqb, le-leb, lt-leb}
+use Rattle.pack.specs.Image.{mostSymbols, setWords}
 use Rattle.text.specs.declared.Field.{Field}
 use Rattle.text.specs.declared.Kind.{Kind}
 use Rattle.text.specs.declared.Kind.the-variants.{Number, Set}
 use Rattle.text.specs.declared.Row.{Row}
-use Rattle.text.specs.declared.Row.the-variants.{Numbers, Sets, Production, Group}
-use Rattle.text.specs.Decimal.{readNumber}
+use Rattle.text.specs.Decimal.{digitsFrom, readNumber}
 use Rattle.text.specs.Fields.{greatestWord, readSet, readField, wordsOf}
-use Rattle.text.specs.Form.{newline, comma, after, rowWidth}
+use Rattle.text.specs.Form.{newline, after}
 use Rattle.text.specs.Reader.{Line, Lines, thenRead, expect, fieldThen, readFields, zeros, readSymbols, readRow, thenLines, asLine, readLines}
 use Rattle.text.specs.Reader.Line.{wrong, took}
-use Rattle.text.proofs.Lines.{then-then, then-took, lines-lines, lines-all, field-then}
+use Rattle.text.specs.Reader.Lines.{wrongFrom, all}
+use Rattle.text.proofs.Decimal.{field}
+use Rattle.text.proofs.Lines.{then-took, field-then, symbols-go}
 use Rattle.reader.specs.declared.lines.Cursor.{Cursor}
-use Rattle.reader.specs.Steps.{lineOf, linesOf, Reads, ReadsLines}
+use Rattle.reader.specs.Steps.{OneDigit, whether, Placed, linesOf, ReadsLines}
+use Rattle.reader.proofs.FieldLaws.{number-short, one-digit}
 
 -- ---- bytes that must stand next
 module _ (s : List ℕ) (p c : ℕ) (cs w : List ℕ) where
@@ -60,25 +63,63 @@ module _ (s name : List ℕ) (at i : ℕ) (w : List ℕ) where
         let y : at + i + 1 ≡ at + (i + 1) = omega arith in
         rw (drop-cons name i 0 h) (expect-on s (at + i) _ _ w l e ∙ rw (y, add-one i))
 
--- ---- cursors
-module _ (line : Line) (text img : List ℕ) (most at words : ℕ) (i : at ≤ length text) (f : words ≤ most) where
-  pub reads-wrong : line ≡ wrong → Reads line text img most (record { ok = false; at = at; words = words })
-  unfolding lineOf
-  reads-wrong e = record { means = sym e; inside = i; fits = f }
+-- ---- whether a byte stands next
+module _ (s : List ℕ) (p c : ℕ) (w : List ℕ) where
+  pub stands-short : length s ≤ p → wrong ≡ expect (c ∷ []) w (drop p s)
+  stands-short h = sym (expect-short s p c [] w h)
 
-  pub reads-took : line ≡ took (take words img) (drop at text) → Reads line text img most (record { ok = true; at = at; words = words })
-  unfolding lineOf
-  reads-took e = record { means = sym e; inside = i; fits = f }
+  pub stands-is : p < length s → whether (eqb (getD s p 0) c) w (drop (p + 1) s) ≡ expect (c ∷ []) w (drop p s)
+  unfolding expect whether
+  stands-is h = rw (drop-cons s p 0 h, ← add-one p) (go (eqb (getD s p 0) c))
+    where
+      go : (x : Bool) → whether x w (drop (p + 1) s) ≡ elim x [ true ↦ expect [] w (drop (p + 1) s) | false ↦ wrong ]
+      go true = refl
+      go false = refl
 
--- Another name for the line, and more room.
-pub reads-as : {line : Line} {text img : List ℕ} {most : ℕ} {c : Cursor} (line′ : Line) → line′ ≡ line → Reads line text img most c → Reads line′ text img most c
-reads-as line′ e r = record { means = r .means ∙ sym e; inside = r .inside; fits = r .fits }
+-- ---- places
+module _ (line : Line) (text w : List ℕ) (p : ℕ) where
+  pub placed-took : p ≤ length text → took w (drop p text) ≡ line → Placed line text w p
+  unfolding whether
+  placed-took h e = record { means = simp (whether, le-leb _ _ h) e }
+
+  pub placed-wrong : length text < p → line ≡ wrong → Placed line text w p
+  unfolding whether
+  placed-wrong h e = record { means = simp (whether, lt-leb _ _ h) (sym e) }
+
+  module _ (q : Placed line text w p) where
+    pub took-is : p ≤ length text → took w (drop p text) ≡ line
+    unfolding whether
+    took-is h = simp (whether, le-leb _ _ h) at (q .means)
+
+    pub wrong-is : length text < p → wrong ≡ line
+    unfolding whether
+    wrong-is h = simp (whether, lt-leb _ _ h) at (q .means)
+
+-- A place behind the text stands for what is wrong.
+pub behind : (text w : List ℕ) {line : Line} → line ≡ wrong → Placed line text w (length text + 1)
+behind text w e = placed-wrong _ text w (length text + 1) (omega arith) e
+
+pub placed-as : {line : Line} {text w : List ℕ} {p : ℕ} (line′ : Line) → line′ ≡ line → Placed line text w p → Placed line′ text w p
+placed-as line′ e q = record { means = q .means ∙ sym e }
+
+-- One part after the other.
+module _ {line : Line} {text w : List ℕ} {p : ℕ} (g : List ℕ → List ℕ → Line) (q : Placed line text w p) where
+  pub part-wrong : (w′ : List ℕ) → length text < p → Placed (thenRead line g) text w′ p
+  unfolding thenRead
+  part-wrong w′ h = placed-wrong _ text w′ p h (rw (← wrong-is line text w p q h))
+
+  pub part-on : {w′ : List ℕ} {r : ℕ} → p ≤ length text → Placed (g w (drop p text)) text w′ r → Placed (thenRead line g) text w′ r
+  unfolding thenRead
+  part-on h k = placed-as _ (rw (← took-is line text w p q h)) k
 
 -- ---- words behind the words so far
 pub stored : (img vs : List ℕ) (n : ℕ) → n + length vs ≤ length img → take (n + length vs) (sets img n vs) ≡ take n img ++ vs
 stored img vs n h =
     let z : length (take n img ++ vs) ≡ n + length vs = length-append (take n img) vs ∙ ap (λ (k : ℕ). k + length vs) (length-take-le n img (omega arith)) in
     rw (sets-eq vs img n h) (take-at (take n img ++ vs) _ _ z)
+
+pub stored-len : (img : List ℕ) (words len : ℕ) → words < length img → take (words + 1) (set img words len) ≡ take words img ++ (len ∷ [])
+stored-len img words len h = rw (add-one words) (take-suc-set img words len h)
 
 -- ---- a field and the byte after it
 -- A number stands in one word of the image, a set in four.
@@ -95,40 +136,74 @@ module _ (text img : List ℕ) (at words next : ℕ) (f : Field) (z : f .used �
   unfolding readField
   set-then img′ e t = field-then Set next (take words img) (drop at text) f e z ∙ rw (drop-drop (f .used) at text, t)
 
--- ---- one part after the other
-module _ (text img : List ℕ) (c : Cursor) (f : List ℕ → List ℕ → Line) where
-  -- A wrong cursor is handed on.
-  pub reads-pass : (img′ : List ℕ) (most : ℕ) → c .ok ≡ false → c .at ≤ length text → c .words ≤ most → Reads (thenRead (lineOf text img c) f) text img′ most c
-  unfolding lineOf thenRead
-  reads-pass img′ most e i l = record { means = simp (lineOf, thenRead, e); inside = i; fits = l }
+  pub set-field : f ≡ readSet (drop at text)
+      → fieldThen Set next (take words img) (drop at text) ≡ expect (next ∷ []) (take words img ++ wordsOf Set (f .value)) (drop (at + f .used) text)
+  unfolding readField
+  set-field e = field-then Set next (take words img) (drop at text) f e z ∙ rw (drop-drop (f .used) at text)
 
-  pub line-go : c .ok ≡ true → thenRead (lineOf text img c) f ≡ f (take (c .words) img) (drop (c .at) text)
-  unfolding lineOf thenRead
-  line-go e = simp (lineOf, thenRead, e)
+-- The byte after it was looked for, and stands there or does not.
+module _ (kind : Kind) (text : List ℕ) (at next used : ℕ) (w v : List ℕ) (right : Bool)
+    (e : fieldThen kind next w (drop at text) ≡ expect (next ∷ []) v (drop (at + used) text))
+    (s : whether right v (drop (at + used + 1) text) ≡ expect (next ∷ []) v (drop (at + used) text)) where
+  pub field-wrong : right ≡ false → fieldThen kind next w (drop at text) ≡ wrong
+  unfolding whether
+  field-wrong r = e ∙ sym s ∙ rw r
 
-  pub reads-on : {img′ : List ℕ} {most : ℕ} {r : Cursor} → c .ok ≡ true → Reads (f (take (c .words) img) (drop (c .at) text)) text img′ most r
-      → Reads (thenRead (lineOf text img c) f) text img′ most r
-  reads-on e q = reads-as _ (line-go e) q
+  pub field-right : right ≡ true → fieldThen kind next w (drop at text) ≡ took v (drop (at + used + 1) text)
+  unfolding whether
+  field-right r = e ∙ sym s ∙ rw r
+
+-- ---- numbers and sets in a row
+module _ (kind : Kind) (left end next : ℕ) (w bytes : List ℕ) (z : left ≡ 0 → ⊥) (e : next ≡ after (left - 1) end) where
+  fields-go : readFields kind left end w bytes ≡ thenRead (fieldThen kind next w bytes) (readFields kind (left - 1) end)
+  unfolding readFields
+  fields-go =
+      let y : left ≡ suc (left - 1) = omega arith in
+      ap (λ (k : ℕ). readFields kind k end w bytes) y ∙ rw (← e)
+
+  pub fields-wrong : fieldThen kind next w bytes ≡ wrong → readFields kind left end w bytes ≡ wrong
+  unfolding thenRead
+  fields-wrong q = fields-go ∙ rw q
+
+  pub fields-on : (w′ rest : List ℕ) → fieldThen kind next w bytes ≡ took w′ rest → readFields kind left end w bytes ≡ readFields kind (left - 1) end w′ rest
+  unfolding thenRead
+  fields-on w′ rest q = fields-go ∙ rw q
+
+pub fields-end : (kind : Kind) (left end : ℕ) (w bytes : List ℕ) → left ≡ 0 → took w bytes ≡ readFields kind left end w bytes
+unfolding readFields
+fields-end kind left end w bytes z = rw z
+
+-- One field by itself.
+one-field : (kind : Kind) (end : ℕ) (w bytes : List ℕ) → readFields kind 1 end w bytes ≡ fieldThen kind end w bytes
+unfolding readFields after
+one-field kind end w bytes = then-took (fieldThen kind end w bytes)
+
+pub placed-field : (kind : Kind) (end : ℕ) (v bytes : List ℕ) {text w : List ℕ} {p : ℕ} → Placed (readFields kind 1 end v bytes) text w p
+    → Placed (fieldThen kind end v bytes) text w p
+placed-field kind end v bytes q = placed-as _ (sym (one-field kind end v bytes)) q
+
+-- The byte after a field is no digit.
+pub after-low : (more end next : ℕ) → next ≡ after more end → end < 48 → next < 48
+unfolding after
+after-low zero end next e h = rw e h
+after-low (suc more) end next e h = omega arith
+
+-- A number of one digit.
+pub number-one : (text img : List ℕ) (p to next : ℕ) → OneDigit text p next → next < 48 → to < length img
+    → fieldThen Number next (take to img) (drop p text) ≡ took (take (to + 1) (set img to (getD text p 0 - 48))) (drop (p + 2) text)
+number-one text img p to next o l h =
+    let d = getD text p 0 - 48 in
+    let x : p + 0 ≡ p = omega arith in
+    let y : p + 1 + 1 ≡ p + 2 = omega arith in
+    let f : field d 1 ≡ digitsFrom greatestWord (drop p text) 0 0 = sym (one-digit greatestWord text p (omega (arith, o .inside)) (o .least) (o .most) (rw (o .behind) l)) in
+    number-then text img p to next (field d 1) (λ z. absurd (omega (arith, z)))
+    (number-short greatestWord (drop p text) (field d 1) f (omega (arith, o .most)) (omega arith)) h
+    ∙ expect-one text (p + 1) next _ (omega (arith, o .inside)) (o .behind) ∙ rw y
 
 -- One turn of a row or of a table.
 pub one-more : (left w : ℕ) → (left ≡ 0 → ⊥) → left * w ≡ (left - 1) * w + w
 one-more zero w z = absurd (z refl)
 one-more (suc left) w z = rw (sub-one (suc left)) (suc-mul left w)
-
--- ---- fields
-fields-suc : (kind : Kind) (n end : ℕ) (l : Line) → thenRead l (readFields kind (suc n) end) ≡ thenRead (thenRead l (fieldThen kind (after n end))) (readFields kind n end)
-unfolding readFields
-fields-suc kind n end l = sym (then-then l (fieldThen kind (after n end)) (readFields kind n end))
-
-pub fields-on : (kind : Kind) (left end next : ℕ) (l l′ : Line) → (left ≡ 0 → ⊥) → next ≡ after (left - 1) end → l′ ≡ thenRead l (fieldThen kind next)
-    → thenRead l (readFields kind left end) ≡ thenRead l′ (readFields kind (left - 1) end)
-fields-on kind left end next l l′ z e q =
-    let y : left ≡ suc (left - 1) = omega arith in
-    ap (λ (k : ℕ). thenRead l (readFields kind k end)) y ∙ fields-suc kind (left - 1) end l ∙ rw (← e, q)
-
-pub fields-end : (kind : Kind) (left end : ℕ) (l : Line) → left ≡ 0 → l ≡ thenRead l (readFields kind left end)
-unfolding readFields
-fields-end kind left end l z = rw z (sym (then-took l))
 
 -- ---- zeros
 zeros-suc : (n : ℕ) → zeros (suc n) ≡ zeros n ++ (0 ∷ [])
@@ -146,62 +221,31 @@ pad-on img img₀ words i h e =
     let z : words + (i + 1) ≡ suc (words + i) = omega arith in
     rw (z, take-suc-set img (words + i) 0 h, e, add-one i, zeros-suc i, append-assoc (take words img₀) (zeros i) (0 ∷ []))
 
-pub padded-wrong : (text img : List ℕ) (c : Cursor) (n : ℕ) → c .ok ≡ false → lineOf text img c ≡ thenRead (lineOf text img c) (λ u left. took (u ++ zeros n) left)
-unfolding lineOf thenRead
-padded-wrong text img c n e = simp (lineOf, thenRead, e)
-
-pub padded-took : (text img img′ : List ℕ) (c : Cursor) (n : ℕ) → c .ok ≡ true → take (c .words + n) img′ ≡ take (c .words) img ++ zeros n
-    → lineOf text img′ (record { ok = true; at = c .at; words = c .words + n }) ≡ thenRead (lineOf text img c) (λ u left. took (u ++ zeros n) left)
-unfolding lineOf
-padded-took text img img′ c n e t = ap (λ (l : List ℕ). took l (drop (c .at) text)) t ∙ sym (line-go text img c (λ u left. took (u ++ zeros n) left) e)
-
 -- ---- a production
-pub symbols-then : (text img img₂ img₃ : List ℕ) (at words len k a most : ℕ) (c d r : Cursor) → words < length img → a ≡ after len newline
-    → Reads (expect (a ∷ []) (take (words + 1) (set img words len)) (drop at text)) text (set img words len) (words + 1) c
-    → Reads (thenRead (lineOf text (set img words len) c) (readFields Number len newline)) text img₂ most d
-    → lineOf text img₃ r ≡ thenRead (lineOf text img₂ d) (λ u left. took (u ++ zeros k) left)
-    → lineOf text img₃ r ≡ thenRead (expect (after len newline ∷ []) (take words img ++ (len ∷ [])) (drop at text))
-    (λ w rest. thenRead (readFields Number len newline w rest) (λ u left. took (u ++ zeros k) left))
-symbols-then text img img₂ img₃ at words len k a most c d r h e b q p =
-    let z : expect (a ∷ []) (take (words + 1) (set img words len)) (drop at text) ≡ expect (after len newline ∷ []) (take words img ++ (len ∷ [])) (drop at text) =
-    rw (add-one words, take-suc-set img words len h, e) in
-    p ∙ ap (λ (l : Line). thenRead l (λ u left. took (u ++ zeros k) left)) (q .means ∙ ap (λ (l : Line). thenRead l (readFields Number len newline)) (b .means ∙ z))
-    ∙ then-then _ (readFields Number len newline) (λ u left. took (u ++ zeros k) left)
+pub pad-part : {text w w′ : List ℕ} {p : ℕ} (n : ℕ) {line : Line} → Placed line text w p → w′ ≡ w ++ zeros n → Placed (thenRead line (λ u left. took (u ++ zeros n) left)) text w′ p
+unfolding whether thenRead
+pad-part {text} {w} {w′} {p} n {line} q e = record { means = rw (← q .means, e) (go (leb p (length text))) }
+  where
+    go : (x : Bool) → whether x (w ++ zeros n) (drop p text) ≡ thenRead (whether x w (drop p text)) (λ u left. took (u ++ zeros n) left)
+    go true = refl
+    go false = refl
 
--- ---- rows
-pub reads-room : {line : Line} {text img : List ℕ} {c : Cursor} (most most′ : ℕ) → most ≤ most′ → Reads line text img most c → Reads line text img most′ c
-reads-room most most′ h r = record { means = r .means; inside = r .inside; fits = omega (arith, r .fits) }
+-- The len of a production and the byte after it.
+module _ (text w : List ℕ) (at next : ℕ) (f : Field) (e : f ≡ readNumber greatestWord (drop at text)) (z : f .used ≡ 0 → ⊥) (h : f .value ≤ mostSymbols)
+    (n : next ≡ after (f .value) newline) (right : Bool)
+    (s : whether right (w ++ (f .value ∷ [])) (drop (at + f .used + 1) text) ≡ expect (next ∷ []) (w ++ (f .value ∷ [])) (drop (at + f .used) text)) where
+  symbols-stand : readSymbols w (drop at text) ≡ thenRead (whether right (w ++ (f .value ∷ [])) (drop (at + f .used + 1) text))
+      (λ w rest. thenRead (readFields Number (f .value) newline w rest) (λ u left. took (u ++ zeros (mostSymbols - f .value)) left))
+  symbols-stand = symbols-go w (drop at text) f e z h ∙ rw (drop-drop (f .used) at text, ← n, s)
 
--- Two parts are one.
-pub reads-two : (l : Line) (f g : List ℕ → List ℕ → Line) (text img₁ img₂ : List ℕ) (m k : ℕ) (d r : Cursor)
-    → Reads (thenRead l f) text img₁ m d → Reads (thenRead (lineOf text img₁ d) g) text img₂ (d .words + k) r
-    → Reads (thenRead l (λ w rest. thenRead (f w rest) g)) text img₂ (m + k) r
-reads-two l f g text img₁ img₂ m k d r p q = record {
-  means = q .means ∙ ap (λ (x : Line). thenRead x g) (p .means) ∙ then-then l f g;
-  inside = q .inside;
-  fits = omega (arith, p .fits, q .fits);
-}
+  pub symbols-wrong : right ≡ false → readSymbols w (drop at text) ≡ wrong
+  unfolding whether thenRead
+  symbols-wrong r = symbols-stand ∙ rw r
 
-module _ (row : Row) (l : Line) (text img : List ℕ) (w : ℕ) where
-  pub row-numbers : (n : ℕ) (r : Cursor) → row ≡ Numbers n → Reads (thenRead l (readFields Number n newline)) text img (w + n * 1) r
-      → Reads (thenRead l (readRow row)) text img (w + rowWidth row) r
-  unfolding readRow rowWidth
-  row-numbers n r e q = rw e (reads-room (w + n * 1) (w + n) (omega arith) q)
-
-  pub row-sets : (n : ℕ) (r : Cursor) → row ≡ Sets n → Reads (thenRead l (readFields Set n newline)) text img (w + n * setWords) r
-      → Reads (thenRead l (readRow row)) text img (w + rowWidth row) r
-  unfolding readRow rowWidth
-  row-sets n r e q = rw e q
-
-  pub row-production : (img₁ : List ℕ) (d r : Cursor) → row ≡ Production → Reads (thenRead l (fieldThen Number comma)) text img₁ (w + 1) d
-      → Reads (thenRead (lineOf text img₁ d) readSymbols) text img (d .words + (1 + mostSymbols)) r → Reads (thenRead l (readRow row)) text img (w + rowWidth row) r
-  unfolding readRow rowWidth
-  row-production img₁ d r e p q = rw e (reads-room (w + 1 + (1 + mostSymbols)) (w + productionWords) (omega arith) (reads-two l (fieldThen Number comma) readSymbols text img₁ img (w + 1) (1 + mostSymbols) d r p q))
-
-  pub row-group : (img₁ : List ℕ) (d r : Cursor) → row ≡ Group → Reads (thenRead l (fieldThen Set comma)) text img₁ (w + setWords) d
-      → Reads (thenRead (lineOf text img₁ d) (fieldThen Number newline)) text img (d .words + 1) r → Reads (thenRead l (readRow row)) text img (w + rowWidth row) r
-  unfolding readRow rowWidth
-  row-group img₁ d r e p q = rw e (reads-room (w + setWords + 1) (w + groupWords) (omega arith) (reads-two l (fieldThen Set comma) (fieldThen Number newline) text img₁ img (w + setWords) 1 d r p q))
+  pub symbols-right : right ≡ true → readSymbols w (drop at text) ≡ thenRead (readFields Number (f .value) newline (w ++ (f .value ∷ [])) (drop (at + f .used + 1) text))
+      (λ u left. took (u ++ zeros (mostSymbols - f .value)) left)
+  unfolding whether thenRead
+  symbols-right r = symbols-stand ∙ rw r
 
 -- ---- lines
 module _ (text img : List ℕ) (c : Cursor) (f : List ℕ → List ℕ → Lines) where
@@ -213,32 +257,38 @@ module _ (text img : List ℕ) (c : Cursor) (f : List ℕ → List ℕ → Lines
   unfolding linesOf thenLines
   lines-go e = simp (linesOf, thenLines, e)
 
--- One line: its name, and its row.
-abbrev pub oneLine : List ℕ → Row → List ℕ → List ℕ → Lines
-oneLine name row w rest = asLine rest (thenRead (expect name w rest) (readRow row))
+-- Lines that began with all right.
+module _ (text img img′ : List ℕ) (c : Cursor) (f : List ℕ → List ℕ → Lines) (most at words : ℕ) (e : c .ok ≡ true) (i : at ≤ length text) (l : words ≤ most) where
+  pub lines-fail : wrongFrom (drop at text) ≡ f (take (c .words) img) (drop (c .at) text)
+      → ReadsLines (thenLines (linesOf text img c) f) text img′ most (record { ok = false; at = at; words = words })
+  unfolding linesOf
+  lines-fail q = record { means = q ∙ sym (lines-go text img c f e); inside = i; fits = l }
 
-pub lines-on : (name : List ℕ) (row : Row) (left : ℕ) (l l′ : Lines) → (left ≡ 0 → ⊥) → l′ ≡ thenLines l (oneLine name row)
-    → thenLines l (readLines name row left) ≡ thenLines l′ (readLines name row (left - 1))
+  pub lines-went : all (take words img′) (drop at text) ≡ f (take (c .words) img) (drop (c .at) text)
+      → ReadsLines (thenLines (linesOf text img c) f) text img′ most (record { ok = true; at = at; words = words })
+  unfolding linesOf
+  lines-went q = record { means = q ∙ sym (lines-go text img c f e); inside = i; fits = l }
+
+-- The lines of a table that are left.
+module _ (text w w′ name : List ℕ) (row : Row) (at p left : ℕ) (z : left ≡ 0 → ⊥)
+    (q : Placed (thenRead (expect name w (drop at text)) (readRow row)) text w′ p) where
+  table-go : readLines name row left w (drop at text) ≡ thenLines (asLine (drop at text) (thenRead (expect name w (drop at text)) (readRow row))) (readLines name row (left - 1))
+  unfolding readLines
+  table-go =
+      let y : left ≡ suc (left - 1) = omega arith in
+      ap (λ (k : ℕ). readLines name row k w (drop at text)) y
+
+  pub lines-wrong : length text < p → wrongFrom (drop at text) ≡ readLines name row left w (drop at text)
+  unfolding asLine thenLines
+  lines-wrong h = sym (table-go ∙ rw (← wrong-is _ text w′ p q h))
+
+  pub lines-on : p ≤ length text → readLines name row left w (drop at text) ≡ readLines name row (left - 1) w′ (drop p text)
+  unfolding asLine thenLines
+  lines-on h = table-go ∙ rw (← took-is _ text w′ p q h)
+
+pub lines-end : (name : List ℕ) (row : Row) (left : ℕ) (w bytes : List ℕ) → left ≡ 0 → all w bytes ≡ readLines name row left w bytes
 unfolding readLines
-lines-on name row zero l l′ z q = absurd (z refl)
-lines-on name row (suc left) l l′ z q = rw (sub-one (suc left), q) (sym (lines-lines l (oneLine name row) (readLines name row left)))
-
-pub lines-end : (name : List ℕ) (row : Row) (left : ℕ) (l : Lines) → left ≡ 0 → l ≡ thenLines l (readLines name row left)
-unfolding readLines
-lines-end name row left l z = rw z (sym (lines-all l))
-
-pub line-done : (text img img′ name : List ℕ) (row : Row) (c d e r : Cursor) (k : ℕ) → c .ok ≡ true → c .at ≤ length text
-    → Reads (expect name (take (c .words) img) (drop (c .at) text)) text img (c .words) d
-    → Reads (thenRead (lineOf text img d) (readRow row)) text img′ (d .words + k) e
-    → linesOf text img′ r ≡ asLine (drop (c .at) text) (lineOf text img′ e) → r .words ≡ e .words → ((n : ℕ) → c .at ≤ n → e .at ≤ n → r .at ≤ n)
-    → ReadsLines (thenLines (linesOf text img c) (oneLine name row)) text img′ (c .words + k) r
-line-done text img img′ name row c d e r k ok i p q m w o = record {
-  means =
-      m ∙ ap (asLine (drop (c .at) text)) (q .means ∙ ap (λ (x : Line). thenRead x (readRow row)) (p .means))
-      ∙ sym (lines-go text img c (oneLine name row) ok);
-  inside = o (length text) i (q .inside);
-  fits = omega (arith, p .fits, q .fits);
-}
+lines-end name row left w bytes z = rw z
 
 pub lines-as : {lines : Lines} {text img : List ℕ} {most : ℕ} {c : Cursor} (lines′ : Lines) → lines′ ≡ lines → ReadsLines lines text img most c → ReadsLines lines′ text img most c
 lines-as lines′ e r = record { means = r .means ∙ sym e; inside = r .inside; fits = r .fits }

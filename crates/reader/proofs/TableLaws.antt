@@ -7,7 +7,7 @@ use native.Mathlib.Omega.{arith}
 use lib.ListN.{length, take, drop, set, length-take, length-drop, drop-of-length-le}
 use lib.Seq.{drop-cons, take-suc-set, take-all, take-at}
 use borrow.Author.Tests.{lt-ltb, le-ltb}
-use Rattle.pack.specs.Image.{largestImage}
+use Rattle.pack.specs.Image.{largestImage, needed}
 use Rattle.numbers.specs.declared.Answer.{Answer}
 use Rattle.numbers.specs.Codes.{notTheForm, textTooLong, wrongShape, longestText}
 use Rattle.numbers.specs.Front.{front, deliver, Delivers, bufferAfter}
@@ -23,57 +23,45 @@ use Rattle.text.specs.Reader.{Line, Lines, thenRead, expect, readRow, thenLines
 use Rattle.text.specs.Reader.Line.{wrong, took}
 use Rattle.text.specs.Reader.Lines.{wrongFrom, all}
 use Rattle.text.proofs.Lines.{lines-lines, lines-all}
-use Rattle.text.proofs.Tables.{tablesFrom, tables-on, tables-end, tables-fit}
+use Rattle.text.proofs.Tables.{tablesFrom, tables-on, tables-end, tables-fit, tables-needed}
 use Rattle.reader.specs.declared.lines.Cursor.{Cursor}
-use Rattle.reader.specs.Steps.{lineOf, linesOf, Reads, ReadsLines}
-use Rattle.reader.proofs.LineLaws.{reads-wrong, reads-on, line-go, lines-go}
-
--- ---- the limits of the sizes
-module _ (text img : List ℕ) (c : Cursor) (e : c .ok ≡ true) (i : c .at ≤ length text) {v : Verdict} (s : v ≡ each (sizeRule (take (c .words) img)) 8 1) where
-  pub limits-kept : isWrong v ≡ false → Reads (thenRead (lineOf text img c) limited) text img (c .words) c
-  unfolding lineOf limited
-  limits-kept g =
-      let w = take (c .words) img in
-      let rest = drop (c .at) text in
-      let y : lineOf text img c ≡ took w rest = simp (lineOf, e) in
-      let z : limited w rest ≡ took w rest = simp (limited, sym s ∙ is-good v g) in
-      record { means = y ∙ sym (line-go text img c limited e ∙ z); inside = i; fits = omega arith }
-
-  pub limits-broken : isWrong v ≡ true → Reads (thenRead (lineOf text img c) limited) text img (c .words) (record { ok = false; at = c .at; words = c .words })
-  unfolding limited
-  limits-broken g =
-      let w = is-wrong v g in
-      reads-on text img c limited e (reads-wrong _ text img (c .words) (c .at) (c .words) i (omega arith) (simp (limited, sym s ∙ w .1)))
+use Rattle.reader.specs.Steps.{Placed, linesOf, ReadsLines}
+use Rattle.reader.proofs.LineLaws.{took-is, wrong-is, lines-go}
 
 -- ---- the first two lines
-module _ (text img : List ℕ) (c : Cursor) (n : ℕ) (b : Reads (expect packLine (1 ∷ []) text) text img n c) where
-  pub head-wrong : c .ok ≡ false → ReadsLines (readHead text) text img (n + 8) (record { ok = false; at = 0; words = c .words })
-  unfolding readHead linesOf lineOf thenLines asLine
-  head-wrong e =
-      let z : wrong ≡ expect packLine (1 ∷ []) text = simp (lineOf, e) at (b .means) in
-      record { means = simp (readHead, ← z); inside = omega arith; fits = omega (arith, b .fits) }
+module _ (text : List ℕ) (start : ℕ) (b : Placed (expect packLine (1 ∷ []) text) text (1 ∷ []) start) where
+  pub head-wrong : (img : List ℕ) → length text < start → ReadsLines (readHead text) text img 9 (record { ok = false; at = 0; words = 1 })
+  unfolding readHead thenLines asLine linesOf
+  head-wrong img h =
+      let z : wrong ≡ expect packLine (1 ∷ []) text = wrong-is _ _ _ _ b h in
+      record { means = simp (readHead, ← z); inside = omega arith; fits = omega arith }
 
-  pub head-went : c .ok ≡ true
-      → readHead text ≡ asLine (drop (c .at) text) (thenRead (thenRead (expect (sizes .name) (take (c .words) img) (drop (c .at) text)) (readRow (sizes .row))) limited)
-  unfolding readHead lineOf thenLines asLine
-  head-went e =
-      let z : took (take (c .words) img) (drop (c .at) text) ≡ expect packLine (1 ∷ []) text = simp (lineOf, e) at (b .means) in
-      simp (readHead, ← z)
+  module _ (h : start ≤ length text) (img : List ℕ) (p : ℕ)
+      (q : Placed (thenRead (expect (sizes .name) (1 ∷ []) (drop start text)) (readRow (sizes .row))) text (take 9 img) p) where
+    head-went : readHead text ≡ asLine (drop start text) (thenRead (thenRead (expect (sizes .name) (1 ∷ []) (drop start text)) (readRow (sizes .row))) limited)
+    unfolding readHead thenLines asLine
+    head-went =
+        let z : took (1 ∷ []) (drop start text) ≡ expect packLine (1 ∷ []) text = took-is _ _ _ _ b h in
+        simp (readHead, ← z)
 
-  pub head-done : (img′ : List ℕ) (d e f r : Cursor) → c .ok ≡ true
-      → Reads (expect (sizes .name) (take (c .words) img) (drop (c .at) text)) text img (c .words) d
-      → Reads (thenRead (lineOf text img d) (readRow (sizes .row))) text img′ (d .words + 8) e
-      → Reads (thenRead (lineOf text img′ e) limited) text img′ (e .words) f
-      → linesOf text img′ r ≡ asLine (drop (c .at) text) (lineOf text img′ f) → r .words ≡ f .words → ((n : ℕ) → c .at ≤ n → f .at ≤ n → r .at ≤ n)
-      → ReadsLines (readHead text) text img′ (n + 8) r
-  head-done img′ d e f r ok p q o m w k = record {
-    means =
-        m ∙ ap (asLine (drop (c .at) text))
-        (o .means ∙ ap (λ (x : Line). thenRead x limited) (q .means ∙ ap (λ (x : Line). thenRead x (readRow (sizes .row))) (p .means)))
-        ∙ sym (head-went ok);
-    inside = k (length text) (b .inside) (o .inside);
-    fits = omega (arith, b .fits, p .fits, q .fits, o .fits);
-  }
+    pub size-wrong : length text < p → ReadsLines (readHead text) text img 9 (record { ok = false; at = start; words = 1 })
+    unfolding thenRead asLine linesOf
+    size-wrong l = record { means = sym (head-went ∙ rw (← wrong-is _ _ _ _ q l)); inside = h; fits = omega arith }
+
+    module _ (l : p ≤ length text) (nine : length img ≡ 9) (v : Verdict) (s : v ≡ each (sizeRule img) 8 1) where
+      limits : v ≡ each (sizeRule (take 9 img)) 8 1
+      limits = rw (take-all 9 img (omega arith)) s
+
+      pub limits-broken : isWrong v ≡ true → ReadsLines (readHead text) text img 9 (record { ok = false; at = start; words = 1 })
+      unfolding thenRead asLine limited linesOf
+      limits-broken g =
+          let x = is-wrong v g in
+          record { means = sym (head-went ∙ rw (← took-is _ _ _ _ q l) (simp (limited, sym limits ∙ x .1))); inside = h; fits = omega arith }
+
+      pub limits-kept : isWrong v ≡ false → ReadsLines (readHead text) text img 9 (record { ok = true; at = p; words = 9 })
+      unfolding thenRead asLine limited linesOf
+      limits-kept g =
+          record { means = sym (head-went ∙ rw (← took-is _ _ _ _ q l) (simp (limited, sym limits ∙ is-good v g))); inside = l; fits = omega arith }
 
 pub first-word : (img : List ℕ) → 9 ≤ length img → take 1 (set img 0 1) ≡ 1 ∷ []
 first-word img h = take-suc-set img 0 1 (omega arith)
@@ -160,23 +148,29 @@ module _ (text head : List ℕ) (c : Cursor) (nine : length head ≡ 9) (h : Rea
     pub head-room : c .words + tableWords (tablesOf head) ≤ largestImage
     head-room = omega (arith, all-nine, tables-fit head head-sized)
 
+    pub head-needed : c .words + tableWords (tablesOf head) ≡ needed head
+    head-needed = omega (arith, all-nine, tables-needed head)
+
+    pub needed-most : needed head ≤ largestImage
+    needed-most = omega (arith, head-room, head-needed)
+
     -- The words of the head stand at the front of the image.
     head-there : (img img′ : List ℕ) (r : Answer) → 9 ≤ length img → Delivers (deliver head (length img)) img img′ r → take (c .words) img′ ≡ head
     head-there img img′ r l d =
         let z : img′ ≡ front head img = d .left ∙ rw (deliver-all head (length img) (omega (arith, nine))) in
         rw (z, all-nine) (take-at head (drop (length head) img) 9 nine)
 
-    pub all-done : (img img′ img″ : List ℕ) (a : Answer) (d r : Cursor) → largestImage ≤ length img → Delivers (deliver head (length img)) img img′ a
+    pub all-done : (img img′ img″ : List ℕ) (a : Answer) (d r : Cursor) → needed head ≤ length img → Delivers (deliver head (length img)) img img′ a
         → ReadsLines (thenLines (linesOf text img′ c) (readTables (tablesOf head))) text img″ (c .words + tableWords (tablesOf head)) d
-        → ReadsLines (thenLines (linesOf text img″ d) ended) text img″ (d .words) r → ReadsLines (readAll text) text img″ largestImage r
+        → ReadsLines (thenLines (linesOf text img″ d) ended) text img″ (d .words) r → ReadsLines (readAll text) text img″ (needed head) r
     unfolding readAll thenLines
     all-done img img′ img″ a d r l o p q =
         let y : all head (drop (c .at) text) ≡ readHead text = rw front-is at went in
         let z : linesOf text img″ d ≡ thenLines (readHead text) (λ w rest. readTables (tablesOf w) w rest) =
-        p .means ∙ lines-go text img′ c (readTables (tablesOf head)) e ∙ rw (head-there img img′ a (omega arith) o, ← y) in record {
+        p .means ∙ lines-go text img′ c (readTables (tablesOf head)) e ∙ rw (head-there img img′ a (omega (arith, l, all-nine, head-needed)) o, ← y) in record {
           means = q .means ∙ ap (λ (x : Lines). thenLines x ended) z;
           inside = q .inside;
-          fits = omega (arith, q .fits, p .fits, head-room);
+          fits = omega (arith, q .fits, p .fits, head-needed);
         }
 
 -- ---- words that were read
@@ -189,23 +183,29 @@ module _ (words b : List ℕ) (room : ℕ) where
   unfolding judge
   judge-good b′ r e q = simp (judge, e) q
 
+-- ---- a text whose head is right
+module _ (text b img : List ℕ) (room most : ℕ) (c : Cursor) (p : ReadsLines (readAll text) text img most c) where
+  pub by-wrong : c .ok ≡ false → Delivers (judge (length text) room (readAll text)) b b (answer notTheForm (c .at))
+  unfolding linesOf judge
+  by-wrong e =
+      let z : wrongFrom (drop (c .at) text) ≡ readAll text = simp (linesOf, e) at (p .means) in
+      let y : length text - length (drop (c .at) text) ≡ c .at = rw (length-drop (c .at) text) (omega (arith, p .inside)) in
+      record { given = simp (← z, judge, y); left = simp (← z, judge) }
+
+  pub by-done : (b′ : List ℕ) (r : Answer) → c .ok ≡ true → Delivers (judge 0 room (all (take (c .words) img) [])) b b′ r
+      → Delivers (judge (length text) room (readAll text)) b b′ r
+  unfolding linesOf judge
+  by-done b′ r e q =
+      let z : all (take (c .words) img) (drop (c .at) text) ≡ readAll text = simp (linesOf, e) at (p .means) in
+      rw (← z) q
+
 -- ---- the reader
 module _ (text b : List ℕ) where
   pub read-long : longestText < length text → (answer textTooLong 0 ≡ read text b .answer) × (b ≡ bufferAfter b (read text b))
   unfolding read
   read-long h = (simp (read, lt-ltb _ _ h), simp (read, lt-ltb _ _ h))
 
-  module _ (h : length text ≤ longestText) (img : List ℕ) (c : Cursor) (p : ReadsLines (readAll text) text img largestImage c) where
-    pub read-wrong : c .ok ≡ false → (answer notTheForm (c .at) ≡ read text b .answer) × (b ≡ bufferAfter b (read text b))
-    unfolding read linesOf judge
-    read-wrong e =
-        let z : wrongFrom (drop (c .at) text) ≡ readAll text = simp (linesOf, e) at (p .means) in
-        let y : length text - length (drop (c .at) text) ≡ c .at = rw (length-drop (c .at) text) (omega (arith, p .inside)) in
-        (simp (read, le-ltb _ _ h, ← z, judge, y), simp (read, le-ltb _ _ h, ← z, judge))
-
-    pub read-done : (b′ : List ℕ) (r : Answer) → c .ok ≡ true → Delivers (judge 0 (length b) (all (take (c .words) img) [])) b b′ r
-        → (r ≡ read text b .answer) × (b′ ≡ bufferAfter b (read text b))
-    unfolding read linesOf judge
-    read-done b′ r e q =
-        let z : all (take (c .words) img) (drop (c .at) text) ≡ readAll text = simp (linesOf, e) at (p .means) in
-        (simp (read, le-ltb _ _ h, ← z) (q .given), simp (read, le-ltb _ _ h, ← z) (q .left))
+  pub read-is : (b′ : List ℕ) (r : Answer) → length text ≤ longestText → Delivers (judge (length text) (length b) (readAll text)) b b′ r
+      → (r ≡ read text b .answer) × (b′ ≡ bufferAfter b (read text b))
+  unfolding read
+  read-is b′ r h q = (simp (read, le-ltb _ _ h) (q .given), simp (read, le-ltb _ _ h) (q .left))

@@ -1,28 +1,51 @@
 -- What the parts of the reader promise each other. The program holds a place in the text and a number of words where the definitions
 -- hold the bytes that are left and the words so far.
 use mathlib.Core.Path.{_≡_}
-use mathlib.Core.Bool.{true, false}
+use mathlib.Core.Bool.{Bool, true, false}
 use mathlib.Core.List.{List}
-use Prim.Native.Nat.{ℕ, _≤_}
-use lib.ListN.{length, take, drop}
+use Prim.Native.Nat.{ℕ, zero, suc, _+_, _*_, _≤_}
+use lib.Dec.{leb}
+use lib.ListN.{length, getD, take, drop}
+use Rattle.text.specs.Fields.{hexDigit}
 use Rattle.text.specs.Reader.{Line, Lines}
 use Rattle.text.specs.Reader.Line.{wrong, took}
 use Rattle.text.specs.Reader.Lines.{wrongFrom, all}
 use Rattle.reader.specs.declared.lines.Cursor.{Cursor}
 
--- What a cursor stands for after a part of a line, and after lines.
-unfoldable pub lineOf : List ℕ → List ℕ → Cursor → Line
-lineOf text img c = elim (c .ok) [ false ↦ wrong | true ↦ took (take (c .words) img) (drop (c .at) text) ]
+-- The value of four hex digits, and 65536 where one of them is none.
+unfoldable pub hexFour : ℕ → ℕ → ℕ → ℕ → ℕ
+hexFour a b c d =
+    elim (hexDigit a) [
+      | zero ↦ 65536
+      | suc i ↦ elim (hexDigit b) [
+        | zero ↦ 65536
+        | suc j ↦ elim (hexDigit c) [
+          | zero ↦ 65536
+          | suc k ↦ elim (hexDigit d) [ zero ↦ 65536 | suc l ↦ ((i * 16 + j) * 16 + k) * 16 + l ]
+        ]
+      ]
+    ]
 
+-- One digit stands at a place of the text, and behind it this byte.
+pub record OneDigit (text : List ℕ) (at next : ℕ) : Type 0 where
+  pub inside : at + 2 ≤ length text
+  pub least : 48 ≤ getD text at 0
+  pub most : getD text at 0 ≤ 57
+  pub behind : getD text (at + 1) 0 ≡ next
+
+-- A part of a line that is right gives these words and this rest.
+unfoldable pub whether : Bool → List ℕ → List ℕ → Line
+whether right words rest = elim right [ false ↦ wrong | true ↦ took words rest ]
+
+-- After a part of a line a place stands for what was read: with these words, or it is wrong where the place lies behind the text.
+pub record Placed (line : Line) (text words : List ℕ) (at : ℕ) : Type 0 where
+  pub means : whether (leb at (length text)) words (drop at text) ≡ line
+
+-- What a cursor stands for after lines.
 unfoldable pub linesOf : List ℕ → List ℕ → Cursor → Lines
 linesOf text img c = elim (c .ok) [ false ↦ wrongFrom (drop (c .at) text) | true ↦ all (take (c .words) img) (drop (c .at) text) ]
 
--- The cursor stands for this line, or for these lines, within the text and with no more words than `most`.
-pub record Reads (line : Line) (text img : List ℕ) (most : ℕ) (c : Cursor) : Type 0 where
-  pub means : lineOf text img c ≡ line
-  pub inside : c .at ≤ length text
-  pub fits : c .words ≤ most
-
+-- The cursor stands for these lines, within the text and with no more words than `most`.
 pub record ReadsLines (lines : Lines) (text img : List ℕ) (most : ℕ) (c : Cursor) : Type 0 where
   pub means : linesOf text img c ≡ lines
   pub inside : c .at ≤ length text

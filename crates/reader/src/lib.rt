@@ -1,16 +1,26 @@
 // Pack text to image.
+use crate::lines::Cursor;
 use numbers::Answer;
 use numbers::Verdict;
 ghost use mathlib.Core.Path.{_≡_};
+ghost use mathlib.Core.Bool.{true};
 ghost use mathlib.Core.List.{[]};
+ghost use Prim.Native.Nat.{_≤_};
 ghost use lib.ListN.{length};
 ghost use Rattle.numbers.specs.Front.{Delivers, bufferAfter};
-ghost use Rattle.text.specs.Reader.{judge, read};
+ghost use Rattle.pack.specs.Image.{needed};
+ghost use Rattle.reader.specs.Steps.{ReadsLines};
+ghost use Rattle.text.specs.Reader.{readHead, readAll, judge, read};
 ghost use Rattle.text.specs.Reader.Lines.{all};
 
 mod fields; // fields.rt: numbers and sets
 mod lines; // lines.rt: the parts of a line, rows and lines
 mod tables; // tables.rt: the first two lines, the tables and the whole text
+
+// The scratch image is cleared for each call, so there are three sizes of it, and the sizes in the head say which one is enough.
+const SMALL_IMAGE: usize = 512;
+
+const MIDDLE_IMAGE: usize = 4096;
 
 // Words that were read: they must have good shape, and there must be room.
 fn judge(img: &[u16], buffer: &mut [u16]) -> Answer
@@ -26,6 +36,24 @@ fn judge(img: &[u16], buffer: &mut [u16]) -> Answer
     }
 }
 
+// A text whose head is right, read by way of a scratch image that has room for its words.
+fn read_by(text: &[u8], head: &[u16], c: Cursor, img: &mut [u16], buffer: &mut [u16]) -> Answer
+    requires { ⌜ (length (now head) ≡ 9) × ((ReadsLines (readHead (now text)) (now text) (now head) 9 c) × ((c .ok ≡ true) × (needed (now head) ≤ length (now img)))) ⌝ }
+    ensures { λ r. ⌜ Delivers (judge (length (now (text .entry))) (length (now (buffer .entry))) (readAll (now (text .entry)))) (now (buffer .entry)) (now (buffer .exit)) r ⌝ }
+{
+    let d = tables::read_all(text, head, img, c);
+    let ok = d.ok;
+    let at = d.at;
+    let words = d.words;
+    if !ok {
+        return Answer {
+            code: numbers::NOT_THE_FORM,
+            number: at,
+        };
+    }
+    judge(&img[..words], buffer)
+}
+
 // Reads a pack text. Codes 2, 1, 4 and 3 leave the buffer untouched; done puts the words of the image at its front.
 pub fn read(text: &[u8], buffer: &mut [u16]) -> Answer
     ensures { λ r. ⌜ r ≡ read (now (text .entry)) (now (buffer .entry)) .answer ⌝ }
@@ -37,16 +65,25 @@ pub fn read(text: &[u8], buffer: &mut [u16]) -> Answer
             number: 0,
         };
     }
-    let mut img = [0u16; pack::image::LARGEST_IMAGE];
-    let c = tables::read_all(text, &mut img);
+    let mut head = [0u16; pack::image::HEAD_WORDS];
+    let c = tables::read_head(text, &mut head);
     let ok = c.ok;
     let at = c.at;
-    let words = c.words;
     if !ok {
         return Answer {
             code: numbers::NOT_THE_FORM,
             number: at,
         };
     }
-    judge(&img[..words], buffer)
+    let size = pack::image::needed(&head);
+    if size <= SMALL_IMAGE {
+        let mut img = [0u16; SMALL_IMAGE];
+        return read_by(text, &head, c, &mut img, buffer);
+    }
+    if size <= MIDDLE_IMAGE {
+        let mut img = [0u16; MIDDLE_IMAGE];
+        return read_by(text, &head, c, &mut img, buffer);
+    }
+    let mut img = [0u16; pack::image::LARGEST_IMAGE];
+    read_by(text, &head, c, &mut img, buffer)
 }

@@ -1,6 +1,9 @@
-// Reading the lines of a text, part by part: what stands behind a place of the text becomes words of an image.
+// Reading the lines of a text, part by part: what stands behind a place of the text becomes words of an image. Each part of a line gives
+// the place behind it, and a place behind the text where it is wrong.
+use crate::fields::one_digit;
 use crate::fields::read_number;
 use crate::fields::read_set;
+use crate::fields::stands;
 use pack::image::SET_WORDS;
 use text::COMMA;
 use text::Kind;
@@ -8,16 +11,16 @@ use text::NEWLINE;
 use text::Row;
 ghost use mathlib.Core.Path.{_≡_};
 ghost use mathlib.Core.List.{List, [], _∷_, _++_};
-ghost use Prim.Native.Nat.{ℕ, _+_, _*_, _-_, _≤_};
+ghost use Prim.Native.Nat.{ℕ, _+_, _*_, _-_, _<_, _≤_};
 ghost use lib.ListN.{length, take, drop};
-ghost use Rattle.pack.specs.Image.{mostSymbols, setWords};
-ghost use Rattle.text.specs.Fields.{wordsOf, widthOf};
-ghost use Rattle.text.specs.Form.{newline, after, rowWidth};
-ghost use Rattle.text.specs.Reader.{thenRead, expect, fieldThen, readFields, zeros, readSymbols, readRow, thenLines, asLine, readLines};
+ghost use Rattle.pack.specs.Image.{groupWords, largestImage, mostSymbols, productionWords, setWords};
+ghost use Rattle.text.specs.Fields.{wordsOf};
+ghost use Rattle.text.specs.Form.{newline, rowWidth};
 ghost use Rattle.text.specs.Reader.Line.{took};
-ghost use Rattle.reader.specs.Steps.{lineOf, linesOf, Reads, ReadsLines};
+ghost use Rattle.text.specs.Reader.{thenRead, expect, readFields, zeros, readSymbols, readRow, thenLines, readLines};
+ghost use Rattle.reader.specs.Steps.{Placed, linesOf, ReadsLines};
 
-// How far the reader is: whether all was right so far, the place in the text, and the words of the image so far.
+// How far the reader is between two lines: whether all was right so far, the place in the text, and the words of the image so far.
 pub struct Cursor {
     pub ok: bool,
     pub at: usize,
@@ -27,60 +30,22 @@ pub struct Cursor {
 // The most symbols of a production, as the number that is read.
 const MOST_SYMBOLS: u64 = pack::image::MOST_SYMBOLS as u64;
 
-// A byte that must stand next.
-fn expect_byte(text: &[u8], at: usize, words: usize, next: u8) -> Cursor
-    requires { ⌜ at ≤ length (now text) ⌝ }
-    ensures { λ r. ⌜ ((img : List ℕ) → Reads (expect (next ∷ []) (take words img) (drop at (now (text .entry)))) (now (text .entry)) img words r) ⌝ }
-{
-    if text.len() <= at {
-        return Cursor {
-            ok: false, // no byte is left
-            at,
-            words,
-        };
-    }
-    if text[at] == next {
-        return Cursor {
-            ok: true,
-            at: at + 1,
-            words,
-        };
-    }
-    Cursor {
-        ok: false,
-        at,
-        words,
-    }
-}
-
 // A name that must stand next.
-pub fn expect(text: &[u8], at: usize, words: usize, name: &[u8]) -> Cursor
+pub fn expect(text: &[u8], at: usize, name: &[u8]) -> usize
     requires { ⌜ at ≤ length (now text) ⌝ }
-    ensures { λ r. ⌜ ((img : List ℕ) → Reads (expect (now (name .entry)) (take words img) (drop at (now (text .entry)))) (now (text .entry)) img words r) ⌝ }
+    ensures { λ r. ⌜ ((words : List ℕ) → Placed (expect (now (name .entry)) words (drop at (now (text .entry)))) (now (text .entry)) words r) ⌝ }
 {
     let mut i: usize = 0;
     while i < name.len() {
         if text.len() <= at + i {
-            return Cursor {
-                ok: false,
-                at,
-                words,
-            };
+            return text.len() + 1;
         }
         if text[at + i] != name[i] {
-            return Cursor {
-                ok: false,
-                at,
-                words,
-            };
+            return text.len() + 1;
         }
         i += 1;
     }
-    Cursor {
-        ok: true,
-        at: at + i,
-        words,
-    }
+    at + i
 }
 
 // A set as four words of the image, lowest first.
@@ -94,71 +59,61 @@ fn set_words(img: &mut [u16], words: usize, value: u64)
     img[words + 3] = (value / 65536 / 65536 / 65536) as u16;
 }
 
-// One number and the byte after it.
-fn number_then(text: &[u8], img: &mut [u16], at: usize, words: usize, next: u8) -> Cursor
-    requires { ⌜ (at ≤ length (now text)) × (words + 1 ≤ length (now img)) ⌝ }
-    ensures { λ r. ⌜ Reads (fieldThen Kind.Number next (take words (now (img .entry))) (drop at (now (text .entry)))) (now (text .entry)) (now (img .exit)) (words + 1) r ⌝ }
+// So many numbers, split by commas, the last followed by `end`, which is no digit.
+fn read_numbers(text: &[u8], img: &mut [u16], at: usize, words: usize, n: usize, end: u8) -> usize
+    requires { ⌜ (at ≤ length (now text)) × ((words + n ≤ length (now img)) × (end < 48)) ⌝ }
+    ensures { λ r. ⌜ Placed (readFields Kind.Number n end (take words (now (img .entry))) (drop at (now (text .entry)))) (now (text .entry)) (take (words + n) (now (img .exit))) r ⌝ }
 {
-    let f = read_number(text, at, text::GREATEST_WORD);
-    let used = f.used;
-    if used == 0 {
-        return Cursor {
-            ok: false,
-            at,
-            words,
-        };
-    }
-    img[words] = f.value as u16;
-    expect_byte(text, at + used, words + 1, next)
-}
-
-// One set and the byte after it.
-fn set_then(text: &[u8], img: &mut [u16], at: usize, words: usize, next: u8) -> Cursor
-    requires { ⌜ (at ≤ length (now text)) × (words + setWords ≤ length (now img)) ⌝ }
-    ensures { λ r. ⌜ Reads (fieldThen Kind.Set next (take words (now (img .entry))) (drop at (now (text .entry)))) (now (text .entry)) (now (img .exit)) (words + setWords) r ⌝ }
-{
-    let f = read_set(text, at);
-    let used = f.used;
-    if used == 0 {
-        return Cursor {
-            ok: false,
-            at,
-            words,
-        };
-    }
-    set_words(img, words, f.value);
-    expect_byte(text, at + used, words + SET_WORDS, next)
-}
-
-// One field and the byte after it.
-fn field_then(text: &[u8], img: &mut [u16], c: Cursor, kind: Kind, next: u8) -> Cursor
-    requires { ⌜ (c .at ≤ length (now text)) × (c .words + widthOf kind ≤ length (now img)) ⌝ }
-    ensures { λ r. ⌜ Reads (thenRead (lineOf (now (text .entry)) (now (img .entry)) c) (fieldThen kind next)) (now (text .entry)) (now (img .exit)) (c .words + widthOf kind) r ⌝ }
-{
-    let ok = c.ok;
-    let at = c.at;
-    let words = c.words;
-    if !ok {
-        return c;
-    }
-    match kind {
-        Kind::Number => number_then(text, img, at, words, next),
-        Kind::Set => set_then(text, img, at, words, next),
-    }
-}
-
-// So many fields of one kind, split by commas.
-fn read_fields(text: &[u8], img: &mut [u16], c: Cursor, kind: Kind, n: usize, end: u8) -> Cursor
-    requires { ⌜ (c .at ≤ length (now text)) × (c .words + n * widthOf kind ≤ length (now img)) ⌝ }
-    ensures { λ r. ⌜ Reads (thenRead (lineOf (now (text .entry)) (now (img .entry)) c) (readFields kind n end)) (now (text .entry)) (now (img .exit)) (c .words + n * widthOf kind) r ⌝ }
-{
-    let mut d = c;
+    let mut p = at;
+    let mut to = words;
     let mut left = n;
     while left != 0 {
         left -= 1;
-        d = field_then(text, img, d, kind, text::after(left, end));
+        let next = text::after(left, end);
+        if one_digit(text, p, next) {
+            img[to] = (text[p] - 48) as u16;
+            p += 2;
+            to += 1;
+            continue;
+        }
+        let f = read_number(text, p, text::GREATEST_WORD);
+        let used = f.used;
+        if used == 0 {
+            return text.len() + 1;
+        }
+        if !stands(text, p + used, next) {
+            return text.len() + 1;
+        }
+        img[to] = f.value as u16;
+        p = p + used + 1;
+        to += 1;
     }
-    d
+    p
+}
+
+// So many sets, split by commas, the last followed by `end`.
+fn read_sets(text: &[u8], img: &mut [u16], at: usize, words: usize, n: usize, end: u8) -> usize
+    requires { ⌜ (at ≤ length (now text)) × (words + n * setWords ≤ length (now img)) ⌝ }
+    ensures { λ r. ⌜ Placed (readFields Kind.Set n end (take words (now (img .entry))) (drop at (now (text .entry)))) (now (text .entry)) (take (words + n * setWords) (now (img .exit))) r ⌝ }
+{
+    let mut p = at;
+    let mut to = words;
+    let mut left = n;
+    while left != 0 {
+        left -= 1;
+        let f = read_set(text, p);
+        let used = f.used;
+        if used == 0 {
+            return text.len() + 1;
+        }
+        if !stands(text, p + used, text::after(left, end)) {
+            return text.len() + 1;
+        }
+        set_words(img, to, f.value);
+        p = p + used + 1;
+        to += SET_WORDS;
+    }
+    p
 }
 
 // So many words 0 behind the words so far.
@@ -173,121 +128,109 @@ fn pad(img: &mut [u16], words: usize, n: usize)
     }
 }
 
-// A production's unused symbols.
-fn padded(img: &mut [u16], c: Cursor, n: usize) -> Cursor
-    requires { ⌜ c .words + n ≤ length (now img) ⌝ }
-    ensures { λ r. ⌜ ((text : List ℕ) → lineOf text (now (img .exit)) r ≡ thenRead (lineOf text (now (img .entry)) c) (λ u left. took (u ++ zeros n) left)) ⌝ }
-    ensures { λ r. ⌜ (r .at ≡ c .at) × (r .words ≤ c .words + n) ⌝ }
-{
-    let ok = c.ok;
-    let at = c.at;
-    let words = c.words;
-    if !ok {
-        return c;
-    }
-    pad(img, words, n);
-    Cursor {
-        ok: true,
-        at,
-        words: words + n,
-    }
-}
-
-// The len of a production as a word, the byte after it, and the symbols.
-fn symbols_then(text: &[u8], img: &mut [u16], at: usize, words: usize, len: u16) -> Cursor
+// The len of a production as a word, the symbols, and 0 for each that it does not use.
+fn symbols_then(text: &[u8], img: &mut [u16], at: usize, words: usize, len: u16) -> usize
     requires { ⌜ (at ≤ length (now text)) × ((words + (1 + mostSymbols) ≤ length (now img)) × (len ≤ mostSymbols)) ⌝ }
-    ensures { λ r. ⌜ Reads (thenRead (expect (after len newline ∷ []) (take words (now (img .entry)) ++ (len ∷ [])) (drop at (now (text .entry)))) (λ w rest. thenRead (readFields Kind.Number len newline w rest) (λ u left. took (u ++ zeros (mostSymbols - len)) left))) (now (text .entry)) (now (img .exit)) (words + (1 + mostSymbols)) r ⌝ }
+    ensures { λ r. ⌜ Placed (thenRead (readFields Kind.Number len newline (take words (now (img .entry)) ++ (len ∷ [])) (drop at (now (text .entry)))) (λ u left. took (u ++ zeros (mostSymbols - len)) left)) (now (text .entry)) (take (words + (1 + mostSymbols)) (now (img .exit))) r ⌝ }
 {
     let n = len as usize;
     img[words] = len;
-    let c = expect_byte(text, at, words + 1, text::after(n, NEWLINE));
-    let d = read_fields(text, img, c, Kind::Number, n, NEWLINE);
-    padded(img, d, pack::image::MOST_SYMBOLS - n)
+    let p = read_numbers(text, img, at, words + 1, n, NEWLINE);
+    pad(img, words + 1 + n, pack::image::MOST_SYMBOLS - n);
+    p
 }
 
 // The len of a production and its symbols, as 15 words.
-fn read_symbols(text: &[u8], img: &mut [u16], c: Cursor) -> Cursor
-    requires { ⌜ (c .at ≤ length (now text)) × (c .words + (1 + mostSymbols) ≤ length (now img)) ⌝ }
-    ensures { λ r. ⌜ Reads (thenRead (lineOf (now (text .entry)) (now (img .entry)) c) readSymbols) (now (text .entry)) (now (img .exit)) (c .words + (1 + mostSymbols)) r ⌝ }
+fn read_symbols(text: &[u8], img: &mut [u16], at: usize, words: usize) -> usize
+    requires { ⌜ (at ≤ length (now text)) × (words + (1 + mostSymbols) ≤ length (now img)) ⌝ }
+    ensures { λ r. ⌜ Placed (readSymbols (take words (now (img .entry))) (drop at (now (text .entry)))) (now (text .entry)) (take (words + (1 + mostSymbols)) (now (img .exit))) r ⌝ }
 {
-    let ok = c.ok;
-    let at = c.at;
-    let words = c.words;
-    if !ok {
-        return c;
-    }
     let f = read_number(text, at, text::GREATEST_WORD);
     let used = f.used;
     let value = f.value;
     if used == 0 {
-        return Cursor {
-            ok: false,
-            at,
-            words,
-        };
+        return text.len() + 1;
     }
     if MOST_SYMBOLS < value {
-        return Cursor {
-            ok: false,
-            at,
-            words,
-        };
+        return text.len() + 1;
     }
-    symbols_then(text, img, at + used, words, value as u16)
+    let len = value as u16;
+    if !stands(text, at + used, text::after(len as usize, NEWLINE)) {
+        return text.len() + 1;
+    }
+    symbols_then(text, img, at + used + 1, words, len)
+}
+
+// A production: its left side, its len and its symbols.
+fn read_production(text: &[u8], img: &mut [u16], at: usize, words: usize) -> usize
+    requires { ⌜ (at ≤ length (now text)) × (words + productionWords ≤ length (now img)) ⌝ }
+    ensures { λ r. ⌜ Placed (readRow Row.Production (take words (now (img .entry))) (drop at (now (text .entry)))) (now (text .entry)) (take (words + productionWords) (now (img .exit))) r ⌝ }
+{
+    let p = read_numbers(text, img, at, words, 1, COMMA);
+    if text.len() < p {
+        return p;
+    }
+    read_symbols(text, img, p, words + 1)
+}
+
+// A group: its set and the chosen terminal.
+fn read_group(text: &[u8], img: &mut [u16], at: usize, words: usize) -> usize
+    requires { ⌜ (at ≤ length (now text)) × (words + groupWords ≤ length (now img)) ⌝ }
+    ensures { λ r. ⌜ Placed (readRow Row.Group (take words (now (img .entry))) (drop at (now (text .entry)))) (now (text .entry)) (take (words + groupWords) (now (img .exit))) r ⌝ }
+{
+    let p = read_sets(text, img, at, words, 1, COMMA);
+    if text.len() < p {
+        return p;
+    }
+    read_numbers(text, img, p, words + SET_WORDS, 1, NEWLINE)
 }
 
 // What stands behind the `=` of a line.
-pub fn read_row(text: &[u8], img: &mut [u16], c: Cursor, row: Row) -> Cursor
-    requires { ⌜ (c .at ≤ length (now text)) × (c .words + rowWidth row ≤ length (now img)) ⌝ }
-    ensures { λ r. ⌜ Reads (thenRead (lineOf (now (text .entry)) (now (img .entry)) c) (readRow row)) (now (text .entry)) (now (img .exit)) (c .words + rowWidth row) r ⌝ }
+fn read_row(text: &[u8], img: &mut [u16], at: usize, words: usize, row: Row) -> usize
+    requires { ⌜ (at ≤ length (now text)) × (words + rowWidth row ≤ length (now img)) ⌝ }
+    ensures { λ r. ⌜ Placed (readRow row (take words (now (img .entry))) (drop at (now (text .entry)))) (now (text .entry)) (take (words + rowWidth row) (now (img .exit))) r ⌝ }
 {
     match row {
-        Row::Numbers(n) => read_fields(text, img, c, Kind::Number, n, NEWLINE),
-        Row::Sets(n) => read_fields(text, img, c, Kind::Set, n, NEWLINE),
-        Row::Production => {
-            let d = field_then(text, img, c, Kind::Number, COMMA);
-            read_symbols(text, img, d)
-        }
-        Row::Group => {
-            let d = field_then(text, img, c, Kind::Set, COMMA);
-            field_then(text, img, d, Kind::Number, NEWLINE)
-        }
+        Row::Numbers(n) => read_numbers(text, img, at, words, n, NEWLINE),
+        Row::Sets(n) => read_sets(text, img, at, words, n, NEWLINE),
+        Row::Production => read_production(text, img, at, words),
+        Row::Group => read_group(text, img, at, words),
     }
 }
 
-// A line by itself: where it is wrong, its start is the place.
-pub fn as_line(start: usize, c: Cursor) -> Cursor
-    ensures { λ r. ⌜ ((text img : List ℕ) → linesOf text img r ≡ asLine (drop start text) (lineOf text img c)) ⌝ }
-    ensures { λ r. ⌜ (r .words ≡ c .words) × ((n : ℕ) → start ≤ n → c .at ≤ n → r .at ≤ n) ⌝ }
+// The words of a row.
+fn row_width(row: Row) -> usize
+    requires { ⌜ rowWidth row ≤ largestImage ⌝ }
+    ensures { λ r. ⌜ r ≡ rowWidth row ⌝ }
 {
-    let ok = c.ok;
-    let words = c.words;
-    if ok {
-        return c;
-    }
-    Cursor {
-        ok: false,
-        at: start,
-        words,
+    match row {
+        Row::Numbers(n) => n,
+        Row::Sets(n) => n * SET_WORDS,
+        Row::Production => pack::image::PRODUCTION_WORDS,
+        Row::Group => pack::image::GROUP_WORDS,
     }
 }
 
 // One line of a table.
-fn read_line(text: &[u8], img: &mut [u16], c: Cursor, name: &[u8], row: Row) -> Cursor
-    requires { ⌜ (c .at ≤ length (now text)) × (c .words + rowWidth row ≤ length (now img)) ⌝ }
-    ensures { λ r. ⌜ ReadsLines (thenLines (linesOf (now (text .entry)) (now (img .entry)) c) (λ w rest. asLine rest (thenRead (expect (now (name .entry)) w rest) (readRow row)))) (now (text .entry)) (now (img .exit)) (c .words + rowWidth row) r ⌝ }
+pub fn read_line(
+    text: &[u8],
+    img: &mut [u16],
+    at: usize,
+    words: usize,
+    name: &[u8],
+    row: Row,
+) -> usize
+    requires { ⌜ (at ≤ length (now text)) × (words + rowWidth row ≤ length (now img)) ⌝ }
+    ensures { λ r. ⌜ Placed (thenRead (expect (now (name .entry)) (take words (now (img .entry))) (drop at (now (text .entry)))) (readRow row)) (now (text .entry)) (take (words + rowWidth row) (now (img .exit))) r ⌝ }
 {
-    let ok = c.ok;
-    let at = c.at;
-    let words = c.words;
-    if !ok {
-        return c;
+    let p = expect(text, at, name);
+    if text.len() < p {
+        return p;
     }
-    let d = expect(text, at, words, name);
-    as_line(at, read_row(text, img, d, row))
+    read_row(text, img, p, words, row)
 }
 
-// So many lines of a table.
+// So many lines of a table. Where one is wrong, its start is the place.
 pub fn read_lines(
     text: &[u8],
     img: &mut [u16],
@@ -296,14 +239,32 @@ pub fn read_lines(
     row: Row,
     n: usize,
 ) -> Cursor
-    requires { ⌜ (c .at ≤ length (now text)) × (c .words + n * rowWidth row ≤ length (now img)) ⌝ }
+    requires { ⌜ (c .at ≤ length (now text)) × ((c .words + n * rowWidth row ≤ length (now img)) × (c .words + n * rowWidth row ≤ largestImage)) ⌝ }
     ensures { λ r. ⌜ ReadsLines (thenLines (linesOf (now (text .entry)) (now (img .entry)) c) (readLines (now (name .entry)) row n)) (now (text .entry)) (now (img .exit)) (c .words + n * rowWidth row) r ⌝ }
 {
-    let mut d = c;
+    let ok = c.ok;
+    if !ok {
+        return c;
+    }
+    let mut start = c.at;
+    let mut words = c.words;
     let mut left = n;
     while left != 0 {
+        let p = read_line(text, img, start, words, name, row);
+        if text.len() < p {
+            return Cursor {
+                ok: false,
+                at: start,
+                words,
+            };
+        }
+        start = p;
+        words += row_width(row);
         left -= 1;
-        d = read_line(text, img, d, name, row);
     }
-    d
+    Cursor {
+        ok: true,
+        at: start,
+        words,
+    }
 }

@@ -1,66 +1,59 @@
 // Reading the first two lines, the tables and the whole text.
 use crate::lines::Cursor;
-use crate::lines::as_line;
 use crate::lines::expect;
+use crate::lines::read_line;
 use crate::lines::read_lines;
-use crate::lines::read_row;
 use numbers::is_wrong;
 use text::Row;
 ghost use mathlib.Core.Path.{_≡_};
+ghost use mathlib.Core.Bool.{true};
 ghost use mathlib.Core.List.{List};
 ghost use Prim.Native.Nat.{ℕ, _+_, _*_, _<_, _≤_};
 ghost use lib.ListN.{length};
-ghost use Rattle.pack.specs.Image.{largestImage};
+ghost use Rattle.pack.specs.Image.{largestImage, needed};
 ghost use Rattle.text.specs.Form.{rowWidth, tableAt, tablesOf, tableWords};
-ghost use Rattle.text.specs.Reader.{thenRead, thenLines, readLines, readTables, limited, readHead, ended, readAll};
-ghost use Rattle.reader.specs.Steps.{lineOf, linesOf, Reads, ReadsLines};
+ghost use Rattle.text.specs.Reader.{thenLines, readLines, readTables, readHead, ended, readAll};
+ghost use Rattle.reader.specs.Steps.{linesOf, ReadsLines};
 
-// The sizes are a part of the form of their line.
-fn limited(head: &[u16], c: Cursor) -> Cursor
-    requires { ⌜ c .words ≤ length (now head) ⌝ }
-    ensures { λ r. ⌜ ((text : List ℕ) → c .at ≤ length text → Reads (thenRead (lineOf text (now (head .entry)) c) limited) text (now (head .entry)) (c .words) r) ⌝ }
-{
-    let ok = c.ok;
-    let at = c.at;
-    let words = c.words;
-    if !ok {
-        return c;
-    }
-    if is_wrong(shape::sizes(&head[..words])) {
-        return Cursor {
-            ok: false,
-            at,
-            words,
-        };
-    }
-    c
-}
-
-// The first two lines.
-fn read_head(text: &[u8], head: &mut [u16]) -> Cursor
-    requires { ⌜ 9 ≤ length (now head) ⌝ }
+// The first two lines. The limits of the sizes are a part of the form of their line.
+pub fn read_head(text: &[u8], head: &mut [u16]) -> Cursor
+    requires { ⌜ length (now head) ≡ 9 ⌝ }
     ensures { λ r. ⌜ ReadsLines (readHead (now (text .entry))) (now (text .entry)) (now (head .exit)) 9 r ⌝ }
 {
     head[0] = 1;
-    let c = expect(text, 0, 1, b"pack=1\n");
-    let ok = c.ok;
-    let at = c.at;
-    let words = c.words;
-    if !ok {
+    let start = expect(text, 0, b"pack=1\n");
+    if text.len() < start {
         return Cursor {
             ok: false,
             at: 0,
-            words,
+            words: 1,
         };
     }
-    let d = expect(text, at, words, b"size=");
-    let e = read_row(text, head, d, Row::Numbers(8));
-    as_line(at, limited(head, e))
+    let p = read_line(text, head, start, 1, b"size=", Row::Numbers(8));
+    if text.len() < p {
+        return Cursor {
+            ok: false,
+            at: start,
+            words: 1,
+        };
+    }
+    if is_wrong(shape::sizes(head)) {
+        return Cursor {
+            ok: false,
+            at: start,
+            words: 1,
+        };
+    }
+    Cursor {
+        ok: true,
+        at: p,
+        words: 9,
+    }
 }
 
 // Table i, as the sizes in the head say.
 fn read_table(text: &[u8], head: &[u16], img: &mut [u16], c: Cursor, i: usize) -> Cursor
-    requires { ⌜ (c .at ≤ length (now text)) × ((9 ≤ length (now head)) × ((i < 9) × (c .words + tableAt (now head) i .lines * rowWidth (tableAt (now head) i .row) ≤ length (now img)))) ⌝ }
+    requires { ⌜ (c .at ≤ length (now text)) × ((9 ≤ length (now head)) × ((i < 9) × ((c .words + tableAt (now head) i .lines * rowWidth (tableAt (now head) i .row) ≤ length (now img)) × (c .words + tableAt (now head) i .lines * rowWidth (tableAt (now head) i .row) ≤ largestImage)))) ⌝ }
     ensures { λ r. ⌜ ReadsLines (thenLines (linesOf (now (text .entry)) (now (img .entry)) c) (readLines (tableAt (now (head .entry)) i .name) (tableAt (now (head .entry)) i .row) (tableAt (now (head .entry)) i .lines))) (now (text .entry)) (now (img .exit)) (c .words + tableAt (now (head .entry)) i .lines * rowWidth (tableAt (now (head .entry)) i .row)) r ⌝ }
 {
     let mut name = [0u8; text::LONGEST_NAME];
@@ -77,7 +70,7 @@ fn read_table(text: &[u8], head: &[u16], img: &mut [u16], c: Cursor, i: usize) -
 
 // The tables, in the order of their list.
 fn read_tables(text: &[u8], head: &[u16], img: &mut [u16], c: Cursor) -> Cursor
-    requires { ⌜ (c .at ≤ length (now text)) × ((9 ≤ length (now head)) × (c .words + tableWords (tablesOf (now head)) ≤ length (now img))) ⌝ }
+    requires { ⌜ (c .at ≤ length (now text)) × ((9 ≤ length (now head)) × ((c .words + tableWords (tablesOf (now head)) ≤ length (now img)) × (c .words + tableWords (tablesOf (now head)) ≤ largestImage))) ⌝ }
     ensures { λ r. ⌜ ReadsLines (thenLines (linesOf (now (text .entry)) (now (img .entry)) c) (readTables (tablesOf (now (head .entry))))) (now (text .entry)) (now (img .exit)) (c .words + tableWords (tablesOf (now (head .entry)))) r ⌝ }
 {
     let mut d = c;
@@ -110,17 +103,11 @@ fn ended(text: &[u8], c: Cursor) -> Cursor
     c
 }
 
-// The whole text. The head is read into a row of its own, so that its sizes stay while the tables are read into the image.
-pub fn read_all(text: &[u8], img: &mut [u16]) -> Cursor
-    requires { ⌜ largestImage ≤ length (now img) ⌝ }
-    ensures { λ r. ⌜ ReadsLines (readAll (now (text .entry))) (now (text .entry)) (now (img .exit)) largestImage r ⌝ }
+// The whole text, where its head has been read into a row of its own and is right. So its sizes stay while the tables are read into the image.
+pub fn read_all(text: &[u8], head: &[u16], img: &mut [u16], c: Cursor) -> Cursor
+    requires { ⌜ (length (now head) ≡ 9) × ((ReadsLines (readHead (now text)) (now text) (now head) 9 c) × ((c .ok ≡ true) × (needed (now head) ≤ length (now img)))) ⌝ }
+    ensures { λ r. ⌜ ReadsLines (readAll (now (text .entry))) (now (text .entry)) (now (img .exit)) (needed (now (head .entry))) r ⌝ }
 {
-    let mut head = [0u16; pack::image::HEAD_WORDS];
-    let c = read_head(text, &mut head);
-    let ok = c.ok;
-    if !ok {
-        return c;
-    }
-    numbers::deliver(&head, img);
-    ended(text, read_tables(text, &head, img, c))
+    numbers::deliver(head, img);
+    ended(text, read_tables(text, head, img, c))
 }

@@ -1,42 +1,83 @@
--- `reader::lines::read_lines` meets its contract. The loop's invariant: the lines that are left, read from where it stands, give the same as all of them.
-use mathlib.Core.Path.{_≡_, refl, _∙_}
+-- `reader::lines::read_lines` meets its contract. The loop's invariant: the lines that are left, read from where it stands, give the same as
+-- all of them.
+use mathlib.Core.Path.{_≡_, refl, sym, _∙_}
 use Prim.Native.Nat.{_+_, _*_, _≤_}
 use borrow.Author.Needs.{needs}
+use borrow.Author.Tests.{not-true, not-false}
 use native.Mathlib.Omega.{arith}
-use lib.ListN.{length}
+use lib.ListN.{length, take, drop}
 use Rattle.text.specs.Form.{rowWidth}
-use Rattle.text.specs.Reader.{thenLines, readLines}
-use Rattle.reader.specs.Steps.{linesOf}
-use Rattle.reader.proofs.LineLaws.{one-more, lines-on, lines-end, lines-as}
+use Rattle.text.specs.Reader.{readLines}
+use Rattle.reader.proofs.LineLaws.{one-more, lines-pass, lines-fail, lines-went, lines-wrong, lines-on, lines-end}
 use Rattle.reader.proofs.lines.read_lines.Statement.{statement}
 use Rattle.reader.proofs.lines.read_lines.Tie as tie
 
 abbrev Inv-loop : tie.InvT-loop
-Inv-loop text img₀ name row n d₀ left₀ img d left = (d .at ≤ length text) × (d .words + left * rowWidth row ≤ d₀ .words + n * rowWidth row) × (length img ≡ length img₀) × (thenLines (linesOf text img₀ d₀) (readLines name row n) ≡ thenLines (linesOf text img d) (readLines name row left))
+Inv-loop text img₀ name row n ok start₀ words₀ left₀ img start words left =
+    (start ≤ length text) × (words + left * rowWidth row ≡ words₀ + n * rowWidth row) × (length img ≡ length img₀)
+    × (readLines name row n (take words₀ img₀) (drop start₀ text) ≡ readLines name row left (take words img) (drop start text))
 
 abbrev μ-loop : tie.MeasureT-loop
-μ-loop text img₀ name row n d₀ left₀ img d left = left
+μ-loop text img₀ name row n ok start₀ words₀ left₀ img start words left = left
+
+returns : tie.Need-returns Inv-loop μ-loop
+returns c = lines-pass _ _ _ _ _ _ (not-true _ (c .if1 .taken)) (c .before .before .before .before .pre .0) (omega arith)
 
 loop-holds : tie.Need-loop-holds Inv-loop μ-loop
-loop-holds c = (c .before .before .before .pre .0, search needs, refl, refl)
+loop-holds c = (c .before .before .before .before .pre .0, refl, refl, refl)
 
 read-line-requires : tie.Need-read-line-requires Inv-loop μ-loop
-read-line-requires c κs = let l = c .before .before .loop .inv in (l .0, omega (arith, c .before .before .before .before .before .before .pre .1, l .1, l .2, one-more _ (rowWidth (c .before .before .before .before .before .before .args .row)) (c .before .loop-test .taken)))
+read-line-requires c κs =
+    let t = c .before in
+    let l = t .before .loop in
+    let s = t .before .before .before .before .before .before in
+    (l .inv .0, omega (arith, l .inv .1, l .inv .2, one-more (l .left) (rowWidth (s .args .row)) (t .loop-test .taken), s .pre .1 .0))
+
+returns-2 : tie.Need-returns-2 Inv-loop μ-loop
+returns-2 c =
+    let y = c .before .before .before in
+    let t = y .before .before in
+    let l = t .before .loop in
+    let i = t .before .before in
+    let s = i .before .before .before .before in
+    lines-fail _ _ _ (s .args .c) _ _ _ _ (not-false _ (i .if1 .left)) (l .inv .0) (omega (arith, l .inv .1))
+    (lines-wrong (s .args .text .now) _ _ _ _ (l .start) _ (l .left) (t .loop-test .taken) (y .read-line .ensures) (c .if2 .taken) ∙ sym (l .inv .3))
+
+row-width-requires : tie.Need-row-width-requires Inv-loop μ-loop
+row-width-requires c κs =
+    let t = c .before .before .before .before .before in
+    let l = t .before .loop in
+    let s = t .before .before .before .before .before .before in
+    omega (arith, l .inv .1, one-more (l .left) (rowWidth (s .args .row)) (t .loop-test .taken), s .pre .1 .1)
+
+add-words : tie.Need-add-words Inv-loop μ-loop
+add-words c =
+    let t = c .before .before .before .before .before .before in
+    let l = t .before .loop in
+    let s = t .before .before .before .before .before .before in
+    omega (arith, c .row-width .ensures, l .inv .1, one-more (l .left) (rowWidth (s .args .row)) (t .loop-test .taken), s .pre .1 .1)
 
 loop-again : tie.Need-loop-again Inv-loop μ-loop
 loop-again c =
-    let l = c .before .before .before .before .before .loop .inv in
-    let r = c .before .before .read-line .ensures in (
-      r .inside,
-      omega (arith, r .fits, l .1, one-more _ (rowWidth (c .before .before .before .before .before .before .before .before .before .args .row)) (c .before .before .before .before .loop-test .taken)),
-      c .before .before .read-line .kept .1 .0 ∙ l .2,
-      l .3 ∙ lines-on _ _ _ _ _ (c .before .before .before .before .loop-test .taken) (r .means),
+    let i = c .before in
+    let y = i .before .before .before in
+    let t = y .before .before in
+    let l = t .before .loop in
+    let s = t .before .before .before .before .before .before in (
+      i .if2 .left,
+      omega (arith, c .row-width .ensures, l .inv .1, one-more (l .left) (rowWidth (s .args .row)) (t .loop-test .taken)),
+      y .read-line .kept .1 .0 ∙ l .inv .2,
+      rw (c .row-width .ensures) (l .inv .3 ∙ lines-on (s .args .text .now) _ _ _ _ (l .start) _ (l .left) (t .loop-test .taken) (y .read-line .ensures) (i .if2 .left)),
     )
 
-returns : tie.Need-returns Inv-loop μ-loop
-returns c =
-    let l = c .before .loop .inv in
-    lines-as _ (l .3) (record { means = lines-end _ _ _ _ (c .loop-test .left); inside = l .0; fits = omega (arith, l .1) })
+returns-3 : tie.Need-returns-3 Inv-loop μ-loop
+returns-3 c =
+    let l = c .before .loop in
+    let i = c .before .before in
+    let s = i .before .before .before .before in
+    lines-went _ _ _ (s .args .c) _ _ _ _ (not-false _ (i .if1 .left)) (l .inv .0) (omega (arith, l .inv .1)) (lines-end _ _ _ _ _ (c .loop-test .left) ∙ sym (l .inv .3))
 
 pub read-lines-spec : {M : Type 1} → statement M
-read-lines-spec = tie.close (tie.spec Inv-loop μ-loop loop-holds (λ c. search needs) read-line-requires (λ c. search needs) loop-again (λ c. search needs) returns)
+read-lines-spec =
+    tie.close
+    (tie.spec Inv-loop μ-loop returns loop-holds read-line-requires (λ c. search needs) returns-2 row-width-requires add-words (λ c. search needs) (λ c. search needs) loop-again (λ c. search needs) returns-3)

@@ -1,32 +1,38 @@
 -- `reader::lines::symbols_then` meets its contract.
-use mathlib.Core.Path.{_∙_}
+use mathlib.Core.Path.{_≡_, _∙_}
+use Prim.Native.Nat.{_+_, _-_}
 use borrow.Author.Needs.{needs}
 use native.Mathlib.Omega.{arith}
 use lib.ListN.{length-set}
-use Rattle.reader.proofs.LineLaws.{symbols-then}
+use Rattle.reader.proofs.LineLaws.{stored-len, pad-part}
 use Rattle.reader.proofs.lines.symbols_then.Statement.{statement}
 use Rattle.reader.proofs.lines.symbols_then.Tie as tie
 
-read-fields-requires : tie.Need-read-fields-requires
-read-fields-requires c κs = let b = c .before .expect-byte .ensures (c .before .before .before .before .before .args .img .now) in (b .inside, simp length-set (omega (arith, b .fits, c .before .before .before .before .before .pre .1 .0, c .before .before .before .before .before .pre .1 .1)))
+read-numbers-requires : tie.Need-read-numbers-requires
+read-numbers-requires c κs =
+    let s = c .before .before .before in
+    (s .pre .0, (simp length-set (omega (arith, s .pre .1 .0, s .pre .1 .1)), omega arith))
 
-padded-requires : tie.Need-padded-requires
-padded-requires c κs = let b = c .before .before .before .before .before .expect-byte .ensures (c .before .before .before .before .before .before .before .before .before .args .img .now) in let k = simp length-set at (c .before .before .before .read-fields .kept .1 .0) in omega (arith, b .fits, c .before .before .before .read-fields .ensures .fits, k, c .before .before .before .before .before .before .before .before .before .pre .1 .0, c .before .before .before .before .before .before .before .before .before .pre .1 .1)
+pad-requires : tie.Need-pad-requires
+pad-requires c κs =
+    let n = c .before .before .before in
+    let s = n .before .before .before .before in
+    let k = simp length-set at (n .read-numbers .kept .1 .0) in
+    omega (arith, k, s .pre .1 .0, s .pre .1 .1)
 
 same-length : tie.Need-same-length
-same-length c = c .before .before .padded .kept .0 ∙ c .before .before .before .before .before .before .read-fields .kept .1 .0 ∙ simp length-set
+same-length c = c .before .before .pad .kept .0 ∙ c .before .before .before .before .before .before .read-numbers .kept .1 .0 ∙ simp length-set
 
 returns : tie.Need-returns
 returns c =
-    let s = c .before .before .before .before .before .before .before .before .before .before .before .before in
+    let d = c .before .before in
+    let n = d .before .before .before .before in
+    let s = n .before .before .before .before in
     let a = s .args in
-    let b = c .before .before .before .before .before .before .before .before .expect-byte .ensures _ in
-    let q = c .before .before .before .before .before .before .read-fields .ensures in
-    let p = c .before .before .padded .ensures in record {
-      means = symbols-then (a .text .now) (a .img .now) _ _ (a .at) (a .words) (a .len) _ _ _ _ _ _ (omega (arith, s .pre .1 .0)) (c .before .before .before .before .before .before .before .before .before .after .ensures) b q (p .0 (a .text .now));
-      inside = omega (arith, q .inside, p .1 .0);
-      fits = omega (arith, b .fits, q .fits, p .1 .1, s .pre .1 .1);
-    }
+    let z : a .words + 1 + a .len + (14 - a .len) ≡ a .words + (1 + 14) = omega (arith, s .pre .1 .1) in
+    pad-part _ (rw (stored-len (a .img .now) (a .words) (a .len) (omega (arith, s .pre .1 .0))) at (n .read-numbers .ensures)) (rw z at (d .pad .ensures))
 
 pub symbols-then-spec : {M : Type 1} → statement M
-symbols-then-spec = tie.close (tie.spec (λ c. search needs) (λ c. search needs) (λ c. search needs) (λ c κs. search needs) (λ c κs. search needs) read-fields-requires (λ c. search needs) padded-requires same-length returns)
+symbols-then-spec =
+    tie.close
+    (tie.spec (λ c. search needs) (λ c. search needs) (λ c. search needs) read-numbers-requires (λ c. search needs) (λ c. search needs) (λ c. search needs) pad-requires same-length returns)

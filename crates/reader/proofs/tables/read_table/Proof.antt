@@ -14,7 +14,7 @@ slice-aggregate-read-lines c =
 read-lines-requires : tie.Need-read-lines-requires
 read-lines-requires c κs =
     let s = c .before .before .before .before .before .before .before .before .before .before in
-    (s .pre .0, rw (c .lines-of .ensures, c .before .row-of .ensures) (s .pre .1 .1 .1))
+    (s .pre .0, (rw (c .lines-of .ensures, c .before .row-of .ensures) (s .pre .1 .1 .1 .0), rw (c .lines-of .ensures, c .before .row-of .ensures) (s .pre .1 .1 .1 .1)))
 
 returns : tie.Need-returns
 returns c =

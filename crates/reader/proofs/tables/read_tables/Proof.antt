@@ -30,7 +30,8 @@ read-table-requires c κs =
     let l = c .before .before in
     let s = l .before .before .before .before in
     let h = c .before .loop-test .taken in
-    (l .loop .inv .0, (s .pre .1 .0, (h, omega (arith, s .pre .1 .1, l .loop .inv .1, l .loop .inv .2, words-on (s .args .head .now) (l .loop .i) h))))
+    let w = words-on (s .args .head .now) (l .loop .i) h in
+    (l .loop .inv .0, (s .pre .1 .0, (h, (omega (arith, s .pre .1 .1 .0, l .loop .inv .1, l .loop .inv .2, w), omega (arith, s .pre .1 .1 .1, l .loop .inv .1, w)))))
 
 loop-again : tie.Need-loop-again Inv-loop μ-loop
 loop-again c =
