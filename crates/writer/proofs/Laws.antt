@@ -1,80 +1,160 @@
--- The writer's parts: two writes one after the other are one, the turns of the loops, and what is given and left.
-use mathlib.Core.Path.{_≡_, refl, sym, ap, _∙_}
+-- The writer's parts: two writes one after the other are one, the room that each leaves, the turns of the loops, how many bytes they have,
+-- and what is given and left.
+use mathlib.Core.Path.{_≡_, refl, ap, _∙_}
 use mathlib.Core.List.{List, [], _∷_, _++_}
 use Prim.Native.Nat.{ℕ, zero, suc, _+_, _*_, _-_, _/_, _%_, _<_, _≤_}
 use native.Mathlib.Nat.{add-zero, suc-mul, zero-add}
 use native.Mathlib.Numerals.{add-one, sub-one}
 use native.Mathlib.Omega.{arith}
 use lib.ListN.{length, getD, drop, set, length-append, drop-of-length-le}
-use lib.Seq.{drop-cons, sets, sets-eq, set-out}
+use lib.Seq.{drop-cons, sets, sets-eq, length-sets}
 use borrow.Author.Tests.{lt-ltb, le-ltb}
 use Rattle.numbers.specs.declared.Answer.{Answer}
 use Rattle.numbers.specs.Codes.{done, textTooLong, roomTooSmall, wrongShape, longestText}
 use Rattle.numbers.specs.Front.{Delivers, bufferAfter}
 use Rattle.numbers.proofs.Laws.{answer, deliver-small, deliver-done}
 use Rattle.pack.specs.Image.{layoutAt}
+use Rattle.pack.specs.Laid.{Sized}
 use Rattle.numbers.specs.declared.Verdict.the-variants.{Good, Wrong}
 use Rattle.shape.specs.Shape.{shape}
 use Rattle.text.specs.declared.Kind.{Kind}
 use Rattle.text.specs.declared.Kind.the-variants.{Number, Set}
 use Rattle.text.specs.declared.Row.{Row}
 use Rattle.text.specs.declared.Row.the-variants.{Numbers, Sets, Production, Group}
+use Rattle.text.specs.Decimal.{decimal}
 use Rattle.text.specs.Fields.{hexOf, hexWord, fieldText, widthOf}
 use Rattle.text.specs.Form.{newline, comma, after, rowWidth, packLine, sizes, tablesOf, tableAt}
 use Rattle.text.specs.Writer.{fieldsText, rowText, linesText, tablesText, textOf, writeGood, write}
+use Rattle.text.proofs.Decimal.{decimal-one, decimal-more}
 use Rattle.text.proofs.Tables.{tablesFrom, tables-on, tables-end}
-use Rattle.writer.specs.Steps.{tooLong, Wrote}
+use Rattle.writer.specs.Steps.{Room, Wrote, lead, tableText}
 
 -- ---- writes
 sets-append : (a b out : List ℕ) (at : ℕ) → sets out at (a ++ b) ≡ sets (sets out at a) (at + length a) b
 sets-append [] b out at = rw (add-zero at)
 sets-append (x ∷ a) b out at = let z : suc at + length a ≡ at + suc (length a) = omega arith in sets-append a b (set out at x) (suc at) ∙ rw z
 
-pub wrote-none : (out : List ℕ) (at : ℕ) → at ≤ tooLong → Wrote [] out at out at
-wrote-none out at h = record { end = omega arith; holds = λ k. refl }
+pub wrote-none : (out : List ℕ) (at : ℕ) → Wrote [] out at out at
+wrote-none out at = record { end = omega arith; holds = refl }
 
 pub wrote-two : {out out₁ out₂ : List ℕ} {at r₁ r₂ : ℕ} (a b : List ℕ) → Wrote a out at out₁ r₁ → Wrote b out₁ r₁ out₂ r₂ → Wrote (a ++ b) out at out₂ r₂
-wrote-two {out = out} {out₁ = out₁} {at = at} {r₁ = r₁} a b p q = record {
+wrote-two {out = out} {at = at} a b p q = record {
   end = omega (arith, p .end, q .end, length-append a b);
-  holds = λ k.
-      let x : at + length a ≤ tooLong = omega (arith, length-append a b, k) in
-      let y : r₁ ≡ at + length a = omega (arith, p .end) in
-      q .holds (omega (arith, length-append a b, k)) ∙ rw (p .holds x, y, ← sets-append a b out at);
+  holds = q .holds ∙ rw (p .holds, p .end, ← sets-append a b out at);
 }
 
 pub wrote-as : {out out′ : List ℕ} {at r : ℕ} {bytes : List ℕ} (bytes′ : List ℕ) → bytes′ ≡ bytes → Wrote bytes out at out′ r → Wrote bytes′ out at out′ r
 wrote-as bytes′ e p = rw e p
 
-pub wrote-place : {bytes out out′ : List ℕ} {at r : ℕ} → Wrote bytes out at out′ r → r ≤ tooLong
-wrote-place p = omega (arith, p .end)
+-- ---- room
+pub wrote-length : {bytes out out′ : List ℕ} {at r : ℕ} → Wrote bytes out at out′ r → length out′ ≡ length out
+wrote-length {bytes = bytes} {out = out} {at = at} p = ap length (p .holds) ∙ length-sets out at bytes
 
--- ---- one byte
-module _ (out : List ℕ) (at b : ℕ) where
-  pub put-full : at ≤ tooLong → tooLong ≤ at → Wrote (b ∷ []) out at out at
-  put-full h l = record { end = omega arith; holds = λ k. absurd (omega arith) }
+pub room-as : {bytes out : List ℕ} {at : ℕ} (bytes′ : List ℕ) → bytes ≡ bytes′ → Room bytes out at → Room bytes′ out at
+room-as bytes′ e k = rw e at k
 
-  pub put-there : at < tooLong → Wrote (b ∷ []) out at (set out at b) (at + 1)
-  put-there h = record { end = omega arith; holds = λ k. refl }
+pub room-front : {out : List ℕ} {at : ℕ} (a b : List ℕ) → Room (a ++ b) out at → Room a out at
+room-front a b k = record { fits = omega (arith, length-append a b, k .fits) }
 
-  pub put-past : at < tooLong → length out ≤ at → Wrote (b ∷ []) out at out (at + 1)
-  put-past h l = record { end = omega arith; holds = λ k. sym (set-out out at b l) }
+pub room-rest : {out out₁ : List ℕ} {at r₁ : ℕ} (a b : List ℕ) → Room (a ++ b) out at → Wrote a out at out₁ r₁ → Room b out₁ r₁
+room-rest a b k p = record { fits = omega (arith, length-append a b, k .fits, p .end, wrote-length p) }
 
 -- ---- a name
-pub name-step : (name : List ℕ) (i : ℕ) {out out₁ out₂ : List ℕ} {at r₁ r₂ : ℕ} → i < length name → Wrote (getD name i 0 ∷ []) out at out₁ r₁
-    → Wrote (drop (i + 1) name) out₁ r₁ out₂ r₂ → Wrote (drop i name) out at out₂ r₂
-name-step name i h p q = wrote-as (drop i name) (drop-cons name i 0 h ∙ rw (← add-one i)) (wrote-two (getD name i 0 ∷ []) (drop (i + 1) name) p q)
+module _ (name : List ℕ) (i : ℕ) where
+  name-on : i < length name → drop i name ≡ (getD name i 0 ∷ []) ++ drop (i + 1) name
+  name-on h = drop-cons name i 0 h ∙ rw (← add-one i)
 
-pub name-last : (name : List ℕ) (i : ℕ) (out : List ℕ) (at : ℕ) → length name ≤ i → at ≤ tooLong → Wrote (drop i name) out at out at
-name-last name i out at h l = wrote-as (drop i name) (drop-of-length-le name h) (wrote-none out at l)
+  pub name-room : {out : List ℕ} {at : ℕ} → i < length name → Room (drop i name) out at → Room (getD name i 0 ∷ []) out at
+  name-room h k = room-front _ _ (room-as _ (name-on h) k)
+
+  pub name-rest : {out out₁ : List ℕ} {at r₁ : ℕ} → i < length name → Room (drop i name) out at → Wrote (getD name i 0 ∷ []) out at out₁ r₁
+      → Room (drop (i + 1) name) out₁ r₁
+  name-rest h k p = room-rest _ _ (room-as _ (name-on h) k) p
+
+  pub name-step : {out out₁ out₂ : List ℕ} {at r₁ r₂ : ℕ} → i < length name → Wrote (getD name i 0 ∷ []) out at out₁ r₁
+      → Wrote (drop (i + 1) name) out₁ r₁ out₂ r₂ → Wrote (drop i name) out at out₂ r₂
+  name-step h p q = wrote-as _ (name-on h) (wrote-two _ _ p q)
+
+  pub name-last : (out : List ℕ) (at : ℕ) → length name ≤ i → Wrote (drop i name) out at out at
+  name-last out at h = wrote-as _ (drop-of-length-le name h) (wrote-none out at)
+
+-- ---- numbers: the digits in front of the last, and what they are
+front : ℕ → List ℕ
+front zero = []
+front (suc q) = decimal (suc q)
+
+decimal-front : (n : ℕ) → decimal n ≡ front (n / 10) ++ ((48 + n % 10) ∷ [])
+unfolding front
+decimal-front n = go (n / 10) refl
+  where
+    go : (q : ℕ) → n / 10 ≡ q → decimal n ≡ front q ++ ((48 + n % 10) ∷ [])
+    go zero e = let z : n % 10 ≡ n = omega arith in decimal-one n (omega arith) ∙ rw z
+    go (suc q) e = rw (← e) (decimal-more n (omega arith))
+
+front-lead : (q : ℕ) → front q ≡ front (q / 10) ++ lead q
+unfolding front lead
+front-lead zero = refl
+front-lead (suc q) = decimal-front (suc q)
+
+module _ (n : ℕ) where
+  abbrev pub two : List ℕ
+  two = lead (n / 10 / 10 / 10 / 10) ++ lead (n / 10 / 10 / 10)
+
+  abbrev pub three : List ℕ
+  three = two ++ lead (n / 10 / 10)
+
+  abbrev pub four : List ℕ
+  four = three ++ lead (n / 10)
+
+  -- Five digits are enough for a word.
+  pub decimal-five : n < 65536 → decimal n ≡ four ++ ((48 + n % 10) ∷ [])
+  unfolding front
+  decimal-five h =
+      let z : n / 10 / 10 / 10 / 10 / 10 ≡ 0 = omega arith in
+      decimal-front n ∙ rw (front-lead (n / 10), front-lead (n / 10 / 10), front-lead (n / 10 / 10 / 10), front-lead (n / 10 / 10 / 10 / 10), z)
+
+  pub decimal-length : n < 65536 → length (decimal n) ≡ length (lead (n / 10 / 10 / 10 / 10)) + length (lead (n / 10 / 10 / 10)) + length (lead (n / 10 / 10)) + length (lead (n / 10)) + 1
+  decimal-length h = rw (decimal-five h, length-append four ((48 + n % 10) ∷ []), length-append three (lead (n / 10)), length-append two (lead (n / 10 / 10)), length-append (lead (n / 10 / 10 / 10 / 10)) (lead (n / 10 / 10 / 10)))
+
+pub lead-none : (q : ℕ) → q ≡ 0 → lead q ≡ []
+unfolding lead
+lead-none q e = rw e
+
+pub lead-some : (q : ℕ) → (q ≡ 0 → ⊥) → lead q ≡ (48 + q % 10) ∷ []
+unfolding lead
+lead-some zero z = absurd (z refl)
+lead-some (suc q) z = refl
 
 -- ---- hex
-pub hex-ten : (d : ℕ) → d < 10 → 48 + d ≡ hexOf d
-unfolding hexOf
-hex-ten d h = simp (hexOf, lt-ltb d 10 h)
+-- The bytes of the digits from i on.
+hexes : ℕ → ℕ → List ℕ
+hexes zero i = []
+hexes (suc n) i = hexOf i ∷ hexes n (suc i)
 
-pub hex-letter : (d : ℕ) → 10 ≤ d → 87 + d ≡ hexOf d
-unfolding hexOf
-hex-letter d h = simp (hexOf, le-ltb d 10 h)
+hexes-at : (n i k : ℕ) → k < n → getD (hexes n i) k 0 ≡ hexOf (i + k)
+unfolding hexes
+hexes-at zero i k h = absurd (omega arith)
+hexes-at (suc n) i zero h = rw (add-zero i)
+hexes-at (suc n) i (suc k) h = let z : suc i + k ≡ i + suc k = omega arith in hexes-at n (suc i) k (omega arith) ∙ rw z
+
+pub hex-digit : (d : ℕ) → d < 16 → getD (48 ∷ 49 ∷ 50 ∷ 51 ∷ 52 ∷ 53 ∷ 54 ∷ 55 ∷ 56 ∷ 57 ∷ 97 ∷ 98 ∷ 99 ∷ 100 ∷ 101 ∷ 102 ∷ []) d 0 ≡ hexOf d
+unfolding hexes hexOf
+hex-digit d h = hexes-at 16 0 d h ∙ ap hexOf (zero-add d)
+
+pub hex-four : (w : ℕ) → length (hexWord w []) ≡ 4
+unfolding hexWord
+hex-four w = refl
+
+pub set-sixteen : (img : List ℕ) (i : ℕ) → length (fieldText Set img i) ≡ 16
+unfolding fieldText hexWord
+set-sixteen img i = refl
+
+-- Room for n bytes more.
+pub room-more : {bytes out out₁ : List ℕ} {at r₁ : ℕ} (m n : ℕ) → length bytes ≡ m → at + (m + n) ≤ length out → Wrote bytes out at out₁ r₁ → r₁ + n ≤ length out₁
+room-more m n e h p = omega (arith, e, p .end, wrote-length p)
+
+pub hex-room : (w n : ℕ) {out : List ℕ} {at : ℕ} → at + (4 + n) ≤ length out → Room (hexWord w []) out at
+hex-room w n h = record { fits = omega (arith, hex-four w) }
 
 pub hex-word : (w : ℕ) {out out₁ out₂ out₃ out₄ : List ℕ} {at r₁ r₂ r₃ r₄ : ℕ} {a b c d : ℕ}
     → a ≡ hexOf (w / 16 / 16 / 16) → Wrote (a ∷ []) out at out₁ r₁ → b ≡ hexOf (w / 16 / 16 % 16) → Wrote (b ∷ []) out₁ r₁ out₂ r₂
@@ -97,100 +177,211 @@ set-text img i a b c d e p f q g o h n =
     (wrote-two (hexWord a []) _ p (wrote-two (hexWord b []) _ q (wrote-two (hexWord c []) _ o n)))
 
 -- ---- fields
-pub fields-step : (kind : Kind) (left end : ℕ) (img : List ℕ) (from b w : ℕ) {out out₁ out₂ out₃ : List ℕ} {at r₁ r₂ r₃ : ℕ} → (left ≡ 0 → ⊥)
-    → b ≡ after (left - 1) end → w ≡ widthOf kind → Wrote (fieldText kind img from) out at out₁ r₁ → Wrote (b ∷ []) out₁ r₁ out₂ r₂
-    → Wrote (fieldsText kind (left - 1) end img (from + w)) out₂ r₂ out₃ r₃ → Wrote (fieldsText kind left end img from) out at out₃ r₃
-unfolding fieldsText
-fields-step kind zero end img from b w z e f p q o = absurd (z refl)
-fields-step kind (suc left) end img from b w z e f p q o =
-    let y : suc left - 1 ≡ left = sub-one (suc left) in
-    let x : b ≡ after left end = rw y at e in
-    let o′ = rw (y, f) at o in
-    wrote-as _ (rw (← x)) (wrote-two (fieldText kind img from) _ p (wrote-two (b ∷ []) _ q o′))
+module _ (kind : Kind) (left end : ℕ) (img : List ℕ) (from : ℕ) where
+  fields-on : (left ≡ 0 → ⊥)
+      → fieldsText kind left end img from ≡ fieldText kind img from ++ ((after (left - 1) end ∷ []) ++ fieldsText kind (left - 1) end img (from + widthOf kind))
+  unfolding fieldsText
+  fields-on z = go left refl
+    where
+      go : (n : ℕ) → left ≡ n
+          → fieldsText kind n end img from ≡ fieldText kind img from ++ ((after (n - 1) end ∷ []) ++ fieldsText kind (n - 1) end img (from + widthOf kind))
+      go zero e = absurd (z e)
+      go (suc n) e = rw (sub-one (suc n))
 
-pub fields-last : (kind : Kind) (left end : ℕ) (img : List ℕ) (from : ℕ) (out : List ℕ) (at : ℕ) → left ≡ 0 → at ≤ tooLong → Wrote (fieldsText kind left end img from) out at out at
+  module _ (z : left ≡ 0 → ⊥) {out : List ℕ} {at : ℕ} (k : Room (fieldsText kind left end img from) out at) where
+    pub field-room : Room (fieldText kind img from) out at
+    field-room = room-front _ _ (room-as _ (fields-on z) k)
+
+    module _ {b : ℕ} (e : b ≡ after (left - 1) end) {out₁ : List ℕ} {r₁ : ℕ} (p : Wrote (fieldText kind img from) out at out₁ r₁) where
+      behind : Room ((b ∷ []) ++ fieldsText kind (left - 1) end img (from + widthOf kind)) out₁ r₁
+      behind = rw e (room-rest _ _ (room-as _ (fields-on z) k) p)
+
+      pub after-room : Room (b ∷ []) out₁ r₁
+      after-room = room-front _ _ behind
+
+      pub fields-room : {w : ℕ} → w ≡ widthOf kind → {out₂ : List ℕ} {r₂ : ℕ} → Wrote (b ∷ []) out₁ r₁ out₂ r₂ → Room (fieldsText kind (left - 1) end img (from + w)) out₂ r₂
+      fields-room f q = rw f (room-rest _ _ behind q)
+
+  pub fields-step : (b w : ℕ) {out out₁ out₂ out₃ : List ℕ} {at r₁ r₂ r₃ : ℕ} → (left ≡ 0 → ⊥)
+      → b ≡ after (left - 1) end → w ≡ widthOf kind → Wrote (fieldText kind img from) out at out₁ r₁ → Wrote (b ∷ []) out₁ r₁ out₂ r₂
+      → Wrote (fieldsText kind (left - 1) end img (from + w)) out₂ r₂ out₃ r₃ → Wrote (fieldsText kind left end img from) out at out₃ r₃
+  fields-step b w z e f p q o = wrote-as _ (fields-on z) (wrote-two _ _ p (rw e at (rw f at (wrote-two (b ∷ []) _ q o))))
+
+  pub fields-last : (out : List ℕ) (at : ℕ) → left ≡ 0 → Wrote (fieldsText kind left end img from) out at out at
+  unfolding fieldsText
+  fields-last out at z = rw z (wrote-none out at)
+
+  pub fields-none : left ≡ 0 → length (fieldsText kind left end img from) ≡ 0
+  unfolding fieldsText
+  fields-none z = rw z
+
+  pub fields-size : (left ≡ 0 → ⊥)
+      → length (fieldsText kind left end img from) ≡ length (fieldText kind img from) + suc (length (fieldsText kind (left - 1) end img (from + widthOf kind)))
+  fields-size z = ap length (fields-on z) ∙ length-append (fieldText kind img from) _
+
+pub field-number : (kind : Kind) (img : List ℕ) (i w : ℕ) → kind ≡ Number → w ≡ getD img i 0 → fieldText kind img i ≡ decimal w
+unfolding fieldText
+field-number kind img i w e f = rw (e, f)
+
+pub field-set : (kind : Kind) (img : List ℕ) (i : ℕ) → kind ≡ Set → fieldText kind img i ≡ fieldText Set img i
+field-set kind img i e = rw e
+
+pub number-field : (img : List ℕ) (from : ℕ) → fieldText Number img from ≡ decimal (getD img from 0)
+unfolding fieldText
+number-field img from = refl
+
+-- A set has sixteen digits, and a byte behind them.
+pub sets-size : (n end : ℕ) (img : List ℕ) (from : ℕ) → length (fieldsText Set n end img from) ≡ n * 17
 unfolding fieldsText
-fields-last kind left end img from out at z h = rw z (wrote-none out at h)
+sets-size zero end img from = refl
+sets-size (suc n) end img from =
+    length-append (fieldText Set img from) _ ∙ rw (set-sixteen img from, sets-size n end img (from + 4), suc-mul n 17) (omega arith)
+
+pub group-size : (img : List ℕ) (i : ℕ) {n : ℕ} → length (fieldsText Number 1 newline img (i + 4)) ≡ n
+    → length (fieldsText Set 1 comma img i ++ fieldsText Number 1 newline img (i + 4)) ≡ 17 + n
+group-size img i e = length-append (fieldsText Set 1 comma img i) _ ∙ rw (sets-size 1 comma img i, e)
 
 -- ---- rows
-module _ (row : Row) (img : List ℕ) (i : ℕ) {out out′ : List ℕ} {at r : ℕ} where
-  pub row-numbers : (n : ℕ) → row ≡ Numbers n → Wrote (fieldsText Number n newline img i) out at out′ r → Wrote (rowText row img i) out at out′ r
+module _ (row : Row) (img : List ℕ) (i : ℕ) where
+  pub numbers-row : (n : ℕ) → row ≡ Numbers n → rowText row img i ≡ fieldsText Number n newline img i
   unfolding rowText
-  row-numbers n e p = rw e p
+  numbers-row n e = rw e
 
-  pub row-sets : (n : ℕ) → row ≡ Sets n → Wrote (fieldsText Set n newline img i) out at out′ r → Wrote (rowText row img i) out at out′ r
+  pub sets-row : (n : ℕ) → row ≡ Sets n → rowText row img i ≡ fieldsText Set n newline img i
   unfolding rowText
-  row-sets n e p = rw e p
+  sets-row n e = rw e
 
-  pub row-production : (n : ℕ) → row ≡ Production → n ≡ getD img (i + 1) 0 → Wrote (fieldsText Number (2 + n) newline img i) out at out′ r → Wrote (rowText row img i) out at out′ r
+  pub production-row : (n : ℕ) → row ≡ Production → n ≡ getD img (i + 1) 0 → rowText row img i ≡ fieldsText Number (2 + n) newline img i
   unfolding rowText
-  row-production n e f p = rw (e, ← f) p
+  production-row n e f = rw (e, f)
 
-  pub row-group : {out₁ : List ℕ} {r₁ : ℕ} → row ≡ Group → Wrote (fieldsText Set 1 comma img i) out at out₁ r₁ → Wrote (fieldsText Number 1 newline img (i + 4)) out₁ r₁ out′ r
-      → Wrote (rowText row img i) out at out′ r
+  pub group-row : row ≡ Group → rowText row img i ≡ fieldsText Set 1 comma img i ++ fieldsText Number 1 newline img (i + 4)
   unfolding rowText
-  row-group e p q = rw e (wrote-two _ _ p q)
+  group-row e = rw e
 
 -- ---- lines
-pub lines-step : (name : List ℕ) (row : Row) (left : ℕ) (img : List ℕ) (from w : ℕ) {out out₁ out₂ : List ℕ} {at r₁ r₂ : ℕ} → (left ≡ 0 → ⊥) → w ≡ rowWidth row
-    → Wrote (name ++ rowText row img from) out at out₁ r₁ → Wrote (linesText name row (left - 1) img (from + w)) out₁ r₁ out₂ r₂
-    → Wrote (linesText name row left img from) out at out₂ r₂
-unfolding linesText
-lines-step name row zero img from w z f p q = absurd (z refl)
-lines-step name row (suc left) img from w z f p q = let q′ = rw (sub-one (suc left), f) at q in wrote-two (name ++ rowText row img from) _ p q′
+module _ (name : List ℕ) (row : Row) (left : ℕ) (img : List ℕ) (from : ℕ) where
+  lines-on : (left ≡ 0 → ⊥) → linesText name row left img from ≡ (name ++ rowText row img from) ++ linesText name row (left - 1) img (from + rowWidth row)
+  unfolding linesText
+  lines-on z = go left refl
+    where
+      go : (n : ℕ) → left ≡ n → linesText name row n img from ≡ (name ++ rowText row img from) ++ linesText name row (n - 1) img (from + rowWidth row)
+      go zero e = absurd (z e)
+      go (suc n) e = rw (sub-one (suc n))
 
-pub lines-last : (name : List ℕ) (row : Row) (left : ℕ) (img : List ℕ) (from : ℕ) (out : List ℕ) (at : ℕ) → left ≡ 0 → at ≤ tooLong → Wrote (linesText name row left img from) out at out at
-unfolding linesText
-lines-last name row left img from out at z h = rw z (wrote-none out at h)
+  module _ (z : left ≡ 0 → ⊥) {out : List ℕ} {at : ℕ} (k : Room (linesText name row left img from) out at) where
+    pub line-room : Room (name ++ rowText row img from) out at
+    line-room = room-front _ _ (room-as _ (lines-on z) k)
+
+    pub lines-room : {w : ℕ} → w ≡ rowWidth row → {out₁ : List ℕ} {r₁ : ℕ} → Wrote (name ++ rowText row img from) out at out₁ r₁
+        → Room (linesText name row (left - 1) img (from + w)) out₁ r₁
+    lines-room f p = rw f (room-rest _ _ (room-as _ (lines-on z) k) p)
+
+  pub lines-step : (w : ℕ) {out out₁ out₂ : List ℕ} {at r₁ r₂ : ℕ} → (left ≡ 0 → ⊥) → w ≡ rowWidth row
+      → Wrote (name ++ rowText row img from) out at out₁ r₁ → Wrote (linesText name row (left - 1) img (from + w)) out₁ r₁ out₂ r₂
+      → Wrote (linesText name row left img from) out at out₂ r₂
+  lines-step w z f p q = wrote-as _ (lines-on z) (wrote-two _ _ p (rw f at q))
+
+  pub lines-last : (out : List ℕ) (at : ℕ) → left ≡ 0 → Wrote (linesText name row left img from) out at out at
+  unfolding linesText
+  lines-last out at z = rw z (wrote-none out at)
+
+  pub lines-none : left ≡ 0 → length (linesText name row left img from) ≡ 0
+  unfolding linesText
+  lines-none z = rw z
+
+  pub lines-size : (left ≡ 0 → ⊥)
+      → length (linesText name row left img from) ≡ length name + length (rowText row img from) + length (linesText name row (left - 1) img (from + rowWidth row))
+  lines-size z = ap length (lines-on z) ∙ rw (length-append (name ++ rowText row img from) (linesText name row (left - 1) img (from + rowWidth row)), length-append name (rowText row img from))
 
 -- ---- tables
 pub one-more : (left w : ℕ) → (left ≡ 0 → ⊥) → left * w ≡ (left - 1) * w + w
 one-more zero w z = absurd (z refl)
 one-more (suc left) w z = rw (sub-one (suc left)) (suc-mul left w)
 
-module _ (img : List ℕ) (i from : ℕ) where
-  pub table-on : {w : ℕ} {out out₁ out₂ : List ℕ} {at r₁ r₂ : ℕ} → i < 9 → w ≡ tableAt img i .lines * rowWidth (tableAt img i .row)
-      → Wrote (linesText (tableAt img i .name) (tableAt img i .row) (tableAt img i .lines) img from) out at out₁ r₁
-      → Wrote (tablesText (tablesFrom img (i + 1)) img (from + w)) out₁ r₁ out₂ r₂ → Wrote (tablesText (tablesFrom img i) img from) out at out₂ r₂
-  unfolding tablesText
-  table-on h e p q = rw (tables-on img i h) (wrote-two _ _ p (rw e at q))
+-- No table has more lines than there are parse states.
+pub lines-fit : (img : List ℕ) → Sized img → (i : ℕ) → tableAt img i .lines ≤ 1000
+unfolding tablesOf sizes
+lines-fit img s zero = omega arith
+lines-fit img s (suc zero) = omega (arith, s .t-most)
+lines-fit img s (suc (suc zero)) = omega (arith, s .p-most)
+lines-fit img s (suc (suc (suc zero))) = omega (arith, s .s-most)
+lines-fit img s (suc (suc (suc (suc zero)))) = omega (arith, s .s-most)
+lines-fit img s (suc (suc (suc (suc (suc zero))))) = omega (arith, s .r-most)
+lines-fit img s (suc (suc (suc (suc (suc (suc zero)))))) = omega (arith, s .q-most)
+lines-fit img s (suc (suc (suc (suc (suc (suc (suc zero))))))) = omega (arith, s .q-most)
+lines-fit img s (suc (suc (suc (suc (suc (suc (suc (suc zero)))))))) = omega (arith, s .g-most)
+lines-fit img s (suc (suc (suc (suc (suc (suc (suc (suc (suc i))))))))) = omega arith
 
-  pub tables-last : (out : List ℕ) (at : ℕ) → 9 ≤ i → at ≤ tooLong → Wrote (tablesText (tablesFrom img i) img from) out at out at
+module _ (img : List ℕ) (i from : ℕ) where
+  tables-are : i < 9 → tablesText (tablesFrom img i) img from ≡ tableText img i from ++ tablesText (tablesFrom img (i + 1)) img (from + tableAt img i .lines * rowWidth (tableAt img i .row))
   unfolding tablesText
-  tables-last out at h l = rw (tables-end img i h) (wrote-none out at l)
+  tables-are h = rw (tables-on img i h)
+
+  module _ (h : i < 9) {out : List ℕ} {at : ℕ} (k : Room (tablesText (tablesFrom img i) img from) out at) where
+    pub table-room : Room (tableText img i from) out at
+    table-room = room-front _ _ (room-as _ (tables-are h) k)
+
+    pub tables-room : {w : ℕ} → w ≡ tableAt img i .lines * rowWidth (tableAt img i .row) → {out₁ : List ℕ} {r₁ : ℕ} → Wrote (tableText img i from) out at out₁ r₁
+        → Room (tablesText (tablesFrom img (i + 1)) img (from + w)) out₁ r₁
+    tables-room e p = rw e (room-rest _ _ (room-as _ (tables-are h) k) p)
+
+  pub table-on : {w : ℕ} {out out₁ out₂ : List ℕ} {at r₁ r₂ : ℕ} → i < 9 → w ≡ tableAt img i .lines * rowWidth (tableAt img i .row)
+      → Wrote (tableText img i from) out at out₁ r₁
+      → Wrote (tablesText (tablesFrom img (i + 1)) img (from + w)) out₁ r₁ out₂ r₂ → Wrote (tablesText (tablesFrom img i) img from) out at out₂ r₂
+  table-on h e p q = wrote-as _ (tables-are h) (wrote-two _ _ p (rw e at q))
+
+  pub tables-last : (out : List ℕ) (at : ℕ) → 9 ≤ i → Wrote (tablesText (tablesFrom img i) img from) out at out at
+  unfolding tablesText
+  tables-last out at h = rw (tables-end img i h) (wrote-none out at)
+
+  pub tables-none : 9 ≤ i → length (tablesText (tablesFrom img i) img from) ≡ 0
+  unfolding tablesText
+  tables-none h = rw (tables-end img i h)
+
+  pub tables-size : i < 9
+      → length (tablesText (tablesFrom img i) img from) ≡ length (tableText img i from) + length (tablesText (tablesFrom img (i + 1)) img (from + tableAt img i .lines * rowWidth (tableAt img i .row)))
+  tables-size h = ap length (tables-are h) ∙ length-append (tableText img i from) _
 
 -- ---- the whole
-pub text-wrote : (img : List ℕ) {out out₁ out₂ out₃ : List ℕ} {r₁ r₂ r₃ : ℕ} → Wrote packLine out 0 out₁ r₁
-    → Wrote (linesText (sizes .name) (sizes .row) (sizes .lines) img 1) out₁ r₁ out₂ r₂ → Wrote (tablesText (tablesOf img) img layoutAt) out₂ r₂ out₃ r₃
-    → Wrote (textOf img) out 0 out₃ r₃
+abbrev pub sizesText : List ℕ → List ℕ
+sizesText img = linesText (sizes .name) (sizes .row) (sizes .lines) img 1
+
+pub text-is : (img : List ℕ) → textOf img ≡ packLine ++ (sizesText img ++ tablesText (tablesOf img) img layoutAt)
 unfolding textOf
-text-wrote img p q o = wrote-two _ _ p (wrote-two _ _ q o)
+text-is img = refl
+
+pack-seven : length packLine ≡ 7
+unfolding packLine
+pack-seven = refl
+
+pub text-length : (img : List ℕ) → length (textOf img) ≡ 7 + length (sizesText img) + length (tablesText (tablesOf img) img layoutAt)
+text-length img =
+    let tables = tablesText (tablesOf img) img layoutAt in
+    let whole = ap length (text-is img) ∙ length-append packLine (sizesText img ++ tables) in
+    omega (arith, whole, pack-seven, length-append (sizesText img) tables)
 
 -- ---- what is given and left
-module _ (img b : List ℕ) (room : ℕ) {none none′ : List ℕ} {size : ℕ} (p : Wrote (textOf img) none 0 none′ size) where
+module _ (img b : List ℕ) (room : ℕ) {size : ℕ} (e : size ≡ length (textOf img)) where
   pub text-long : longestText < size → Delivers (writeGood img room) b b (answer textTooLong 0)
   unfolding writeGood
   text-long h =
-      let z : longestText < length (textOf img) = omega (arith, p .end) in
+      let z : longestText < length (textOf img) = omega (arith, e) in
       record { given = simp (writeGood, lt-ltb _ _ z); left = simp (writeGood, lt-ltb _ _ z) }
 
   module _ (h : size ≤ longestText) where
-    size-is : size ≡ length (textOf img)
-    size-is = omega (arith, p .end)
-
     short : length (textOf img) ≤ longestText
-    short = omega (arith, size-is)
+    short = omega (arith, e)
 
     pub text-small : room < size → Delivers (writeGood img room) b b (answer roomTooSmall size)
     unfolding writeGood
-    text-small l = simp (writeGood, le-ltb _ _ short) (rw size-is (deliver-small (textOf img) room b (omega (arith, size-is))))
+    text-small l = simp (writeGood, le-ltb _ _ short) (rw e (deliver-small (textOf img) room b (omega (arith, e))))
 
     pub text-done : (b′ : List ℕ) (end : ℕ) → room ≡ length b → size ≤ room → Wrote (textOf img) b 0 b′ end → Delivers (writeGood img room) b b′ (answer done end)
     unfolding writeGood
-    text-done b′ end e l q =
-        let x : length (textOf img) ≤ length b = omega (arith, size-is) in
-        let y = rw (sets-eq (textOf img) b 0 (omega (arith, size-is)), zero-add (length (textOf img))) at (q .holds (omega (arith, short))) in
-        simp (writeGood, le-ltb _ _ short) (deliver-done (textOf img) room b b′ end (omega (arith, size-is)) (omega (arith, q .end, short)) y)
+    text-done b′ end f l q =
+        let y = rw (sets-eq (textOf img) b 0 (omega (arith, e)), zero-add (length (textOf img))) at (q .holds) in
+        simp (writeGood, le-ltb _ _ short) (deliver-done (textOf img) room b b′ end (omega (arith, e)) (omega (arith, q .end)) y)
 
 module _ (img b : List ℕ) where
   pub write-wrong : (place : ℕ) → shape img ≡ Wrong place → (answer wrongShape place ≡ write img b .answer) × (b ≡ bufferAfter b (write img b))

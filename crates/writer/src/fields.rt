@@ -1,17 +1,37 @@
-// Writing the fields of a line: each part is written from a place of the buffer on, as far as the buffer goes, and gives the place after
-// it.
+// Writing the fields of a line: each part is written from a place of the buffer on, where there is room for it, and gives the place after
+// it. Beside it, how many bytes a number or a row of them has.
 use text::Kind;
 ghost use mathlib.Core.Path.{_≡_};
 ghost use mathlib.Core.List.{[], _∷_};
-ghost use Prim.Native.Nat.{_+_, _*_, _<_, _≤_};
-ghost use lib.ListN.{getD};
+ghost use Prim.Native.Nat.{ℕ, _+_, _*_, _<_, _≤_};
+ghost use lib.ListN.{length, getD};
 ghost use Rattle.text.specs.Decimal.{decimal};
 ghost use Rattle.text.specs.Fields.{hexOf, hexWord, fieldText, widthOf};
 ghost use Rattle.text.specs.Writer.{fieldsText};
-ghost use Rattle.writer.specs.Steps.{tooLong, Wrote};
+ghost use Rattle.writer.specs.Steps.{Room, Wrote, lead};
 
-// Places in the text are counted up to this one and no further.
-const TOO_LONG: usize = numbers::LONGEST_TEXT + 1;
+// The hex digits.
+const HEX_DIGITS: [u8; 16] = [
+    48,
+    49,
+    50,
+    51,
+    52,
+    53,
+    54,
+    55,
+    56,
+    57,
+    97,
+    98,
+    99,
+    100,
+    101,
+    102,
+];
+
+// The bytes of a set, and of the byte after it.
+pub const SET_BYTES: usize = 17;
 
 // A word as a number.
 fn wide(x: u16) -> usize
@@ -32,27 +52,24 @@ pub fn word(img: &[u16], i: usize) -> usize
 
 // One byte.
 fn put(out: &mut [u8], at: usize, b: u8) -> usize
-    requires { ⌜ at ≤ tooLong ⌝ }
+    requires { ⌜ Room (b ∷ []) (now out) at ⌝ }
     ensures { λ r. ⌜ Wrote (b ∷ []) (now (out .entry)) at (now (out .exit)) r ⌝ }
 {
-    if TOO_LONG <= at {
-        return at;
-    }
-    if at < out.len() {
-        out[at] = b;
-        return at + 1;
-    }
+    out[at] = b;
     at + 1
 }
 
-// A name.
+// A name, which is as long as that of a table at the most: the compiler then lays out the turns one after the other.
 pub fn write_name(out: &mut [u8], at: usize, name: &[u8]) -> usize
-    requires { ⌜ at ≤ tooLong ⌝ }
+    requires { ⌜ (length (now name) ≤ 7) × (Room (now name) (now out) at) ⌝ }
     ensures { λ r. ⌜ Wrote (now (name .entry)) (now (out .entry)) at (now (out .exit)) r ⌝ }
 {
     let mut to = at;
     let mut i: usize = 0;
-    while i < name.len() {
+    while i < text::LONGEST_NAME {
+        if name.len() <= i {
+            return to;
+        }
         to = put(out, to, name[i]);
         i += 1;
     }
@@ -67,16 +84,30 @@ fn digit_byte(d: usize) -> u8
     (48 + d) as u8
 }
 
-// A number in decimal.
+// The last digit of what is left of a number; nothing where nothing is left.
+fn write_lead(out: &mut [u8], at: usize, q: usize) -> usize
+    requires { ⌜ Room (lead q) (now out) at ⌝ }
+    ensures { λ r. ⌜ Wrote (lead q) (now (out .entry)) at (now (out .exit)) r ⌝ }
+{
+    if q == 0 {
+        return at;
+    }
+    put(out, at, digit_byte(q % 10))
+}
+
+// A number in decimal. Most numbers of a pack have one digit.
 fn write_decimal(out: &mut [u8], at: usize, n: usize) -> usize
-    requires { ⌜ at ≤ tooLong ⌝ }
+    requires { ⌜ (n < 65536) × (Room (decimal n) (now out) at) ⌝ }
     ensures { λ r. ⌜ Wrote (decimal n) (now (out .entry)) at (now (out .exit)) r ⌝ }
 {
     if n < 10 {
         return put(out, at, digit_byte(n));
     }
-    let to = write_decimal(out, at, n / 10);
-    put(out, to, digit_byte(n % 10))
+    let a = write_lead(out, at, n / 10 / 10 / 10 / 10);
+    let b = write_lead(out, a, n / 10 / 10 / 10);
+    let c = write_lead(out, b, n / 10 / 10);
+    let d = write_lead(out, c, n / 10);
+    put(out, d, digit_byte(n % 10))
 }
 
 // The byte of a hex digit.
@@ -84,15 +115,12 @@ fn hex_byte(d: usize) -> u8
     requires { ⌜ d < 16 ⌝ }
     ensures { λ r. ⌜ r ≡ hexOf d ⌝ }
 {
-    if d < 10 {
-        return (48 + d) as u8;
-    }
-    (87 + d) as u8
+    HEX_DIGITS[d]
 }
 
 // A word as four hex digits.
 fn write_hex_word(out: &mut [u8], at: usize, w: usize) -> usize
-    requires { ⌜ (at ≤ tooLong) × (w < 65536) ⌝ }
+    requires { ⌜ (w < 65536) × (Room (hexWord w []) (now out) at) ⌝ }
     ensures { λ r. ⌜ Wrote (hexWord w []) (now (out .entry)) at (now (out .exit)) r ⌝ }
 {
     let a = put(out, at, hex_byte(w / 16 / 16 / 16));
@@ -103,7 +131,7 @@ fn write_hex_word(out: &mut [u8], at: usize, w: usize) -> usize
 
 // A set as 16 hex digits: its four words, highest first.
 fn write_set(out: &mut [u8], at: usize, img: &[u16], i: usize) -> usize
-    requires { ⌜ (at ≤ tooLong) × (i ≤ 1000000) ⌝ }
+    requires { ⌜ (i ≤ 1000000) × (Room (fieldText Kind.Set (now img) i) (now out) at) ⌝ }
     ensures { λ r. ⌜ Wrote (fieldText Kind.Set (now (img .entry)) i) (now (out .entry)) at (now (out .exit)) r ⌝ }
 {
     let a = write_hex_word(out, at, word(img, i + 3));
@@ -114,7 +142,7 @@ fn write_set(out: &mut [u8], at: usize, img: &[u16], i: usize) -> usize
 
 // The field whose words stand at a place of the image.
 fn write_field(out: &mut [u8], at: usize, img: &[u16], i: usize, kind: Kind) -> usize
-    requires { ⌜ (at ≤ tooLong) × (i ≤ 1000000) ⌝ }
+    requires { ⌜ (i ≤ 1000000) × (Room (fieldText kind (now img) i) (now out) at) ⌝ }
     ensures { λ r. ⌜ Wrote (fieldText kind (now (img .entry)) i) (now (out .entry)) at (now (out .exit)) r ⌝ }
 {
     match kind {
@@ -143,7 +171,7 @@ pub fn write_fields(
     n: usize,
     end: u8,
 ) -> usize
-    requires { ⌜ (at ≤ tooLong) × (i + n * widthOf kind ≤ 1000000) ⌝ }
+    requires { ⌜ (i + n * widthOf kind ≤ 1000000) × (Room (fieldsText kind n end (now img) i) (now out) at) ⌝ }
     ensures { λ r. ⌜ Wrote (fieldsText kind n end (now (img .entry)) i) (now (out .entry)) at (now (out .exit)) r ⌝ }
 {
     let mut to = at;
@@ -156,4 +184,42 @@ pub fn write_fields(
         from += width(kind);
     }
     to
+}
+
+// The bytes of one digit, or of none.
+fn lead_size(q: usize) -> usize
+    ensures { λ r. ⌜ (r ≡ length (lead q)) × (r ≤ 1) ⌝ }
+{
+    if q == 0 {
+        return 0;
+    }
+    1
+}
+
+// The digits of a number: a sum of tests, without a branch.
+fn number_size(n: usize) -> usize
+    requires { ⌜ n < 65536 ⌝ }
+    ensures { λ r. ⌜ (r ≡ length (decimal n)) × (r ≤ 5) ⌝ }
+{
+    let a = lead_size(n / 10 / 10 / 10 / 10);
+    let b = lead_size(n / 10 / 10 / 10);
+    let c = lead_size(n / 10 / 10);
+    let d = lead_size(n / 10);
+    a + b + c + d + 1
+}
+
+// The bytes of so many numbers, each with the byte after it.
+pub fn numbers_size(img: &[u16], i: usize, n: usize) -> usize
+    requires { ⌜ i + n ≤ 1000000 ⌝ }
+    ensures { λ r. ⌜ ((end : ℕ) → length (fieldsText Kind.Number n end (now (img .entry)) i) ≡ r) × (r ≤ n * 6) ⌝ }
+{
+    let mut sum: usize = 0;
+    let mut from = i;
+    let mut left = n;
+    while left != 0 {
+        left -= 1;
+        sum += number_size(word(img, from)) + 1;
+        from += 1;
+    }
+    sum
 }

@@ -10,13 +10,12 @@ ghost use Rattle.text.specs.Writer.{writeGood, write};
 mod fields; // fields.rt: bytes, names, numbers and sets
 mod lines; // lines.rt: rows, lines, tables and the whole text
 
-// The text of an image of good shape: its length first, and then its bytes.
+// The text of an image of good shape: its length first, by a walk that writes nothing, and then its bytes.
 fn write_good(img: &[u16], buffer: &mut [u8]) -> Answer
     requires { ⌜ Sized (now img) ⌝ }
     ensures { λ r. ⌜ Delivers (writeGood (now (img .entry)) (length (now (buffer .entry)))) (now (buffer .entry)) (now (buffer .exit)) r ⌝ }
 {
-    let mut none = [0u8; 1];
-    let size = lines::write_text(&mut none, img);
+    let size = lines::text_size(img);
     if numbers::LONGEST_TEXT < size {
         return Answer {
             code: numbers::TEXT_TOO_LONG,

@@ -1,4 +1,6 @@
-// Writing the rows, the lines and the tables of an image, as the fields are written.
+// Writing the rows, the lines and the tables of an image, as the fields are written; and how many bytes they have, without writing any.
+use crate::fields::SET_BYTES;
+use crate::fields::numbers_size;
 use crate::fields::word;
 use crate::fields::write_fields;
 use crate::fields::write_name;
@@ -8,17 +10,18 @@ use text::Kind;
 use text::NEWLINE;
 use text::Row;
 ghost use mathlib.Core.Path.{_≡_};
-ghost use mathlib.Core.List.{_++_};
-ghost use Prim.Native.Nat.{_+_, _*_, _<_, _≤_};
+ghost use mathlib.Core.List.{List, _++_};
+ghost use Prim.Native.Nat.{ℕ, _+_, _*_, _<_, _≤_};
+ghost use lib.ListN.{length};
 ghost use Rattle.pack.specs.Image.{layoutAt, largestImage};
 ghost use Rattle.pack.specs.Laid.{Sized};
 ghost use Rattle.text.specs.Form.{rowWidth, tableAt, tablesOf};
 ghost use Rattle.text.specs.Writer.{rowText, linesText, tablesText, textOf};
-ghost use Rattle.writer.specs.Steps.{tooLong, Wrote};
+ghost use Rattle.writer.specs.Steps.{Room, Wrote, tableText, longLine};
 
 // What stands behind the `=` of a line.
 fn write_row(out: &mut [u8], at: usize, img: &[u16], i: usize, row: Row) -> usize
-    requires { ⌜ (at ≤ tooLong) × (i + rowWidth row ≤ largestImage) ⌝ }
+    requires { ⌜ (i + rowWidth row ≤ largestImage) × (Room (rowText row (now img) i) (now out) at) ⌝ }
     ensures { λ r. ⌜ Wrote (rowText row (now (img .entry)) i) (now (out .entry)) at (now (out .exit)) r ⌝ }
 {
     match row {
@@ -55,7 +58,7 @@ fn row_width(row: Row) -> usize
 
 // One line of a table.
 fn write_line(out: &mut [u8], at: usize, img: &[u16], i: usize, name: &[u8], row: Row) -> usize
-    requires { ⌜ (at ≤ tooLong) × (i + rowWidth row ≤ largestImage) ⌝ }
+    requires { ⌜ (length (now name) ≤ 7) × ((i + rowWidth row ≤ largestImage) × (Room (now name ++ rowText row (now img) i) (now out) at)) ⌝ }
     ensures { λ r. ⌜ Wrote (now (name .entry) ++ rowText row (now (img .entry)) i) (now (out .entry)) at (now (out .exit)) r ⌝ }
 {
     let to = write_name(out, at, name);
@@ -72,7 +75,7 @@ fn write_lines(
     row: Row,
     n: usize,
 ) -> usize
-    requires { ⌜ (at ≤ tooLong) × (i + n * rowWidth row ≤ largestImage) ⌝ }
+    requires { ⌜ (length (now name) ≤ 7) × ((i + n * rowWidth row ≤ largestImage) × (Room (linesText (now name) row n (now img) i) (now out) at)) ⌝ }
     ensures { λ r. ⌜ Wrote (linesText (now (name .entry)) row n (now (img .entry)) i) (now (out .entry)) at (now (out .exit)) r ⌝ }
 {
     let mut to = at;
@@ -96,8 +99,8 @@ fn table_words(img: &[u16], i: usize) -> usize
 
 // Table i, whose words stand from a place of the image on.
 fn write_table(out: &mut [u8], at: usize, img: &[u16], from: usize, i: usize) -> usize
-    requires { ⌜ (at ≤ tooLong) × ((Sized (now img)) × ((i < 9) × (from + tableAt (now img) i .lines * rowWidth (tableAt (now img) i .row) ≤ largestImage))) ⌝ }
-    ensures { λ r. ⌜ Wrote (linesText (tableAt (now (img .entry)) i .name) (tableAt (now (img .entry)) i .row) (tableAt (now (img .entry)) i .lines) (now (img .entry)) from) (now (out .entry)) at (now (out .exit)) r ⌝ }
+    requires { ⌜ (Sized (now img)) × ((i < 9) × ((from + tableAt (now img) i .lines * rowWidth (tableAt (now img) i .row) ≤ largestImage) × (Room (tableText (now img) i from) (now out) at))) ⌝ }
+    ensures { λ r. ⌜ Wrote (tableText (now (img .entry)) i from) (now (out .entry)) at (now (out .exit)) r ⌝ }
 {
     let mut name = [0u8; text::LONGEST_NAME];
     let size = text::name_of(i, &mut name);
@@ -114,7 +117,7 @@ fn write_table(out: &mut [u8], at: usize, img: &[u16], from: usize, i: usize) ->
 
 // The tables, in the order of their list.
 fn write_tables(out: &mut [u8], at: usize, img: &[u16]) -> usize
-    requires { ⌜ (at ≤ tooLong) × (Sized (now img)) ⌝ }
+    requires { ⌜ (Sized (now img)) × (Room (tablesText (tablesOf (now img)) (now img) layoutAt) (now out) at) ⌝ }
     ensures { λ r. ⌜ Wrote (tablesText (tablesOf (now (img .entry))) (now (img .entry)) layoutAt) (now (out .entry)) at (now (out .exit)) r ⌝ }
 {
     let mut to = at;
@@ -130,10 +133,80 @@ fn write_tables(out: &mut [u8], at: usize, img: &[u16]) -> usize
 
 // The text of an image.
 pub fn write_text(out: &mut [u8], img: &[u16]) -> usize
-    requires { ⌜ Sized (now img) ⌝ }
+    requires { ⌜ (Sized (now img)) × (Room (textOf (now img)) (now out) 0) ⌝ }
     ensures { λ r. ⌜ Wrote (textOf (now (img .entry))) (now (out .entry)) 0 (now (out .exit)) r ⌝ }
 {
     let a = write_name(out, 0, b"pack=1\n");
     let b = write_lines(out, a, img, 1, b"size=", Row::Numbers(8), 1);
     write_tables(out, b, img)
+}
+
+// The bytes of what stands behind the `=` of a line.
+fn row_size(img: &[u16], i: usize, row: Row) -> usize
+    requires { ⌜ i + rowWidth row ≤ largestImage ⌝ }
+    ensures { λ r. ⌜ (r ≡ length (rowText row (now (img .entry)) i)) × (r ≤ longLine) ⌝ }
+{
+    match row {
+        Row::Numbers(n) => numbers_size(img, i, n),
+        Row::Sets(n) => n * SET_BYTES,
+        Row::Production => numbers_size(img, i, 2 + word(img, i + 1)),
+        Row::Group => SET_BYTES + numbers_size(img, i + SET_WORDS, 1),
+    }
+}
+
+// The bytes of so many lines of a table whose name has so many bytes.
+fn lines_size(img: &[u16], i: usize, name: usize, row: Row, n: usize) -> usize
+    requires { ⌜ (name ≤ 7) × ((n ≤ 1000) × (i + n * rowWidth row ≤ largestImage)) ⌝ }
+    ensures { λ r. ⌜ ((bytes : List ℕ) → length bytes ≡ name → length (linesText bytes row n (now (img .entry)) i) ≡ r) × (r ≤ n * (longLine + 7)) ⌝ }
+{
+    let mut sum: usize = 0;
+    let mut from = i;
+    let mut left = n;
+    while left != 0 {
+        left -= 1;
+        sum += name + row_size(img, from, row);
+        from += row_width(row);
+    }
+    sum
+}
+
+// The bytes of table i, whose words stand from a place of the image on.
+fn table_size(img: &[u16], from: usize, i: usize) -> usize
+    requires { ⌜ (Sized (now img)) × ((i < 9) × (from + tableAt (now img) i .lines * rowWidth (tableAt (now img) i .row) ≤ largestImage)) ⌝ }
+    ensures { λ r. ⌜ (length (tableText (now (img .entry)) i from) ≡ r) × (r ≤ 1000 * (longLine + 7)) ⌝ }
+{
+    let mut name = [0u8; text::LONGEST_NAME];
+    let size = text::name_of(i, &mut name);
+    lines_size(
+        img,
+        from,
+        size,
+        text::row_of(img, i),
+        text::lines_of(img, i),
+    )
+}
+
+// The bytes of the tables.
+fn tables_size(img: &[u16]) -> usize
+    requires { ⌜ Sized (now img) ⌝ }
+    ensures { λ r. ⌜ (length (tablesText (tablesOf (now (img .entry))) (now (img .entry)) layoutAt) ≡ r) × (r ≤ 9000 * (longLine + 7)) ⌝ }
+{
+    let mut sum: usize = 0;
+    let mut from: usize = pack::image::HEAD_WORDS;
+    let mut i: usize = 0;
+    while i < text::TABLES {
+        sum += table_size(img, from, i);
+        from += table_words(img, i);
+        i += 1;
+    }
+    sum
+}
+
+// The bytes of the text of an image: 7 for the first line, and 5 for the name of the second.
+pub fn text_size(img: &[u16]) -> usize
+    requires { ⌜ Sized (now img) ⌝ }
+    ensures { λ r. ⌜ r ≡ length (textOf (now (img .entry))) ⌝ }
+{
+    let sizes = lines_size(img, 1, 5, Row::Numbers(8), 1);
+    7 + sizes + tables_size(img)
 }

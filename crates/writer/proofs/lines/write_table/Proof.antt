@@ -2,6 +2,7 @@
 use mathlib.Core.Path.{sym}
 use native.Mathlib.Omega.{arith}
 use borrow.Author.Needs.{needs}
+use lib.ListN.{length-take}
 use lib.Seq.{length-take-le}
 use Rattle.writer.proofs.lines.write_table.Statement.{statement}
 use Rattle.writer.proofs.lines.write_table.Tie as tie
@@ -14,7 +15,10 @@ slice-aggregate-write-lines c =
 write-lines-requires : tie.Need-write-lines-requires
 write-lines-requires c κs =
     let s = c .before .before .before .before .before .before .before .before .before in
-    (s .pre .0, rw (c .lines-of .ensures, c .before .row-of .ensures) (s .pre .1 .1 .1))
+    let n = c .before .before .before .before .before .name-of .ensures in (
+      simp length-take (omega (arith, n .0)),
+      (rw (c .lines-of .ensures, c .before .row-of .ensures) (s .pre .1 .1 .0), rw (c .lines-of .ensures, c .before .row-of .ensures, n .1 (s .args .img .now)) (s .pre .1 .1 .1)),
+    )
 
 returns : tie.Need-returns
 returns c =
