@@ -135,7 +135,9 @@ fn break_rule(rng: &mut Rng, pack: &Pack, words: &mut Vec<u16>, rule: Rule) -> O
         Rule::LenAtMost14 => words[production + 1] = beyond(rng, PROD_SYMBOLS),
         Rule::SymbolNotZero => match used(rng) {
             Some(place) if rng.percent(60) => words[place] = 0,
-            _ if len < PROD_SYMBOLS => words[production + 1] += 1,
+            _ if len < PROD_SYMBOLS => {
+                words[production + 1] = words[production + 1].saturating_add(1)
+            }
             _ => return None,
         },
         Rule::SymbolBelowT => words[used(rng)?] = above(rng)? as u16,
@@ -146,7 +148,7 @@ fn break_rule(rng: &mut Rng, pack: &Pack, words: &mut Vec<u16>, rule: Rule) -> O
         }
         Rule::UnusedSymbolZero => match some_below(rng, PROD_SYMBOLS - len) {
             Some(i) if rng.percent(60) => words[production + 2 + len + i] = any_word(rng),
-            _ if len > 0 => words[production + 1] -= 1,
+            _ if len > 0 => words[production + 1] = words[production + 1].saturating_sub(1),
             _ => return None,
         },
         Rule::ActionLayoutColumn => {
