@@ -12,13 +12,14 @@
 #include "../include/zhgarelli.h"
 #include "plain.h"
 
-enum { MOST_WORDS = 20589, MOST_BYTES = 65535, MOST_TREE = 4 * 65535, VERSIONS = 3, NUMBERS = 6, REPEATS = 25 };
+enum { MOST_WORDS = 20589, MOST_BYTES = 65535, MOST_TREE = 4 * 65535, MOST_PRINTOUT = 500000, VERSIONS = 3, NUMBERS = 6, REPEATS = 25 };
 static const double BATCH_SECONDS = 0.008;
 
 typedef size_t image_function(const uint16_t *, size_t, uint64_t *, size_t);
 typedef size_t scan_function(const uint16_t *, size_t, const uint8_t *, size_t, size_t, uint64_t, uint32_t, uint64_t *, size_t);
 typedef size_t read_function(const uint8_t *, size_t, uint16_t *, size_t, uint64_t *, size_t);
 typedef size_t write_function(const uint16_t *, size_t, uint8_t *, size_t, uint64_t *, size_t);
+typedef size_t print_function(const uint8_t *, size_t, const uint16_t *, size_t, uint8_t *, size_t, uint64_t *, size_t);
 typedef size_t parse_function(const uint16_t *, size_t, const uint8_t *, size_t, uint16_t *, size_t, uint32_t, uint64_t *, size_t);
 
 struct version {
@@ -28,12 +29,14 @@ struct version {
     read_function *read;
     write_function *write;
     parse_function *parse;
+    print_function *print;
 };
 
 static const struct version versions[VERSIONS] = {
-    {"proved", zhg_shape, zhg_check, zhg_scan, zhg_read, zhg_write, zhg_parse},
-    {"plain C", plain_c_shape, plain_c_check, plain_c_scan, plain_c_read, plain_c_write, plain_c_parse},
-    {"plain Rust", plain_rust_shape, plain_rust_check, plain_rust_scan, plain_rust_read, plain_rust_write, plain_rust_parse},
+    {"proved", zhg_shape, zhg_check, zhg_scan, zhg_read, zhg_write, zhg_parse, zhg_print},
+    {"plain C", plain_c_shape, plain_c_check, plain_c_scan, plain_c_read, plain_c_write, plain_c_parse, plain_c_print},
+    {"plain Rust", plain_rust_shape, plain_rust_check, plain_rust_scan, plain_rust_read, plain_rust_write, plain_rust_parse,
+     plain_rust_print},
 };
 
 /* Plain C that parses without its shape test, and does nothing else; and C made as fast as we can, of three functions. */
@@ -45,19 +48,26 @@ struct image {
     size_t count;
 };
 
-/* One call of an entry point. A reader, a writer and a parse get so many words or bytes of the lent buffers. */
+/* The records of a tree. */
+struct tree {
+    uint16_t words[MOST_TREE];
+    size_t count;
+};
+
+/* One call of an entry point. A reader, a writer, a parse and a printout get so many words or bytes of the lent buffers. */
 struct call {
-    enum { SHAPE, SCAN, READ, WRITE, CHECK, PARSE } kind;
+    enum { SHAPE, SCAN, READ, WRITE, CHECK, PARSE, PRINT } kind;
     const struct image *image;
     const uint8_t *text;
     size_t text_bytes, start;
     uint64_t set;
     uint32_t allowance;
     size_t room;
+    const struct tree *tree;
 };
 
 static uint16_t lent_words[MOST_WORDS], lent_tree[MOST_TREE];
-static uint8_t lent_bytes[MOST_BYTES];
+static uint8_t lent_bytes[MOST_BYTES], lent_printout[MOST_PRINTOUT];
 
 static size_t answer(const struct version *version, const struct call *call, uint64_t out[NUMBERS])
 {
@@ -74,6 +84,8 @@ static size_t answer(const struct version *version, const struct call *call, uin
         return version->write(image->words, image->count, lent_bytes, call->room, out, NUMBERS);
     case CHECK:
         return version->check(image->words, image->count, out, NUMBERS);
+    case PRINT:
+        return version->print(call->text, call->text_bytes, call->tree->words, call->tree->count, lent_printout, call->room, out, NUMBERS);
     default:
         return version->parse(image->words, image->count, call->text, call->text_bytes, lent_tree, call->room, call->allowance, out,
                               NUMBERS);
@@ -353,19 +365,25 @@ static bool is_fast(const struct call *call)
 
 static size_t compared;
 
-/* The buffer that a call is lent, whole, and its size in bytes. Of the tree a little more than the call may use. */
+/* The buffer that a call is lent, whole, and its size in bytes. Of the tree and the printout a little more than the call may use. */
 static size_t lent(const struct call *call, void **buffer)
 {
-    size_t tree = (call->room + 16) * sizeof *lent_tree;
-    *buffer = call->kind == READ ? (void *)lent_words : call->kind == WRITE ? (void *)lent_bytes : (void *)lent_tree;
+    size_t tree = (call->room + 16) * sizeof *lent_tree, printout = call->room + 16;
     switch (call->kind) {
     case READ:
+        *buffer = lent_words;
         return sizeof lent_words;
     case WRITE:
+        *buffer = lent_bytes;
         return sizeof lent_bytes;
+    case PRINT:
+        *buffer = lent_printout;
+        return printout < sizeof lent_printout ? printout : sizeof lent_printout;
     case PARSE:
+        *buffer = lent_tree;
         return tree < sizeof lent_tree ? tree : sizeof lent_tree;
     default:
+        *buffer = lent_tree;
         return 0;
     }
 }
@@ -418,7 +436,7 @@ static void compare(const struct call *call)
 /* A parse with ample room and allowance. */
 static struct call parse_call(const struct image *image, const char *query, size_t bytes)
 {
-    return (struct call){PARSE, image, (const uint8_t *)query, bytes, 0, 0, UINT32_MAX, MOST_TREE};
+    return (struct call){PARSE, image, (const uint8_t *)query, bytes, 0, 0, UINT32_MAX, MOST_TREE, NULL};
 }
 
 /* Every byte of a pack text is changed in several ways, one at a time, and the text is cut short after each byte. */
@@ -512,8 +530,76 @@ static void compare_scans(const struct image *image)
             text[b] = (uint8_t)(draw(8) ? 97 + draw(26) : draw(256));
         uint64_t set = draw(2) ? draw_set(UINT64_MAX) : UINT64_C(1) << draw(64);
         uint32_t allowance = draw(2) ? UINT32_MAX : (uint32_t)draw(42);
-        compare(&(struct call){SCAN, image, text, draw(41), draw(2) ? 0 : draw(42), set, allowance, 0});
+        compare(&(struct call){SCAN, image, text, draw(41), draw(2) ? 0 : draw(42), set, allowance, 0, NULL});
     }
+}
+
+/* A printout with ample room. */
+static struct call print_call(const struct tree *tree, const char *text, size_t bytes)
+{
+    return (struct call){.kind = PRINT, .text = (const uint8_t *)text, .text_bytes = bytes, .room = MOST_PRINTOUT, .tree = tree};
+}
+
+/* The tree of a text that is accepted. */
+static void parse_tree(struct tree *tree, const struct image *image, const char *text, size_t bytes)
+{
+    uint64_t out[NUMBERS];
+    zhg_parse(image->words, image->count, (const uint8_t *)text, bytes, tree->words, MOST_TREE, UINT32_MAX, out, NUMBERS);
+    if (out[0] != 0)
+        fail("the text is refused");
+    tree->count = 4 * out[4];
+}
+
+/* How many bytes a tree prints. */
+static size_t printed(const struct tree *tree, const char *text, size_t bytes)
+{
+    uint64_t out[NUMBERS];
+    zhg_print((const uint8_t *)text, bytes, tree->words, tree->count, lent_printout, MOST_PRINTOUT, out, NUMBERS);
+    if (out[0] != 0)
+        fail("the tree is refused");
+    return out[1];
+}
+
+static void put_record(struct tree *tree, size_t first, size_t second, size_t third)
+{
+    const size_t record[4] = {first, second, third, 0};
+    for (int i = 0; i < 4; i++)
+        tree->words[tree->count++] = (uint16_t)record[i];
+}
+
+/* So many nodes, each the last child of the one above it, and so many leaves of one byte beside each. */
+static void deep_tree(struct tree *tree, size_t nodes, size_t leaves)
+{
+    tree->count = 0;
+    for (size_t i = 0; i < nodes * leaves; i++)
+        put_record(tree, 1 + i % 63, i % 1000, 1);
+    for (size_t i = 0; i < nodes; i++)
+        put_record(tree, 64, i, leaves + (i > 0));
+}
+
+/* A tree with every room up to its printout and one more, with every word changed in several ways, and cut short. */
+static void compare_prints(const struct tree *good, const char *text, size_t bytes)
+{
+    static struct tree tree;
+    tree = *good;
+    struct call call = print_call(&tree, text, bytes);
+    uint64_t out[NUMBERS];
+    answer(&versions[0], &call, out);
+    size_t most = out[0] == 0 ? out[1] + 1 : 0;
+    for (call.room = 0; call.room <= most; call.room++)
+        compare(&call);
+    call.room = most + 20;
+    for (size_t i = 0; i < good->count; i++) {
+        uint16_t word = good->words[i];
+        const uint16_t other[] = {0, 1, 63, 64, 65535, (uint16_t)(word + 1), (uint16_t)(word - 1), (uint16_t)draw(70)};
+        for (size_t k = 0; k < sizeof other / sizeof *other; k++) {
+            tree.words[i] = other[k];
+            compare(&call);
+        }
+        tree.words[i] = word;
+    }
+    for (tree.count = 0; tree.count < good->count; tree.count++)
+        compare(&call);
 }
 
 /* ---- timing ---- */
@@ -611,7 +697,7 @@ static struct row shape_row(const char *what, const struct image *image, size_t 
 
 static struct row scan_row(const char *what, const struct image *image, const uint8_t *text, size_t bytes, uint64_t set)
 {
-    struct call call = {SCAN, image, text, bytes, 0, set, UINT32_MAX, 0};
+    struct call call = {SCAN, image, text, bytes, 0, set, UINT32_MAX, 0, NULL};
     return (struct row){.what = what, .call = call, .size = bytes, .sized = "bytes", .moves = bytes, .unit = "ns per byte",
                         .per_second = 1e9 / (double)bytes};
 }
@@ -656,18 +742,34 @@ static struct row parse_row(const char *what, const struct image *image, const c
                         .per_second = 1e9 / (double)bytes};
 }
 
-/* A JSON text of about 60,000 bytes, with all that JSON has. */
-static size_t draw_json(char text[MOST_BYTES])
+/* A printout of so many bytes, and a short one. */
+static struct row print_row(const char *what, const struct tree *tree, const char *text, size_t bytes, size_t printed)
+{
+    return (struct row){.what = what, .call = print_call(tree, text, bytes), .size = printed, .sized = "bytes", .unit = "ns per byte",
+                        .per_second = 1e9 / (double)printed};
+}
+
+static struct row short_print_row(const char *what, const struct tree *tree, const char *text, size_t printed)
+{
+    return call_row(what, print_call(tree, text, strlen(text)), printed, "bytes");
+}
+
+/* A JSON text of about 60,000 bytes, with all that JSON has: objects in one list, or in lists of so many. */
+static size_t draw_json(char text[MOST_BYTES], size_t in_lists_of)
 {
     static const char *const names[] = {"std::sort", "malloc", "parse body", "main", "read \\\"quoted\\\""};
     static const char form[] = "%s{\"id\": %u, \"name\": \"%s\", \"share\": %u.%uE-2,\n"
                                " \"calls\": [%u, -%u, []], \"live\": %s, \"next\": null}";
     size_t bytes = 0;
-    while (bytes < 60000)
-        bytes += (size_t)snprintf(text + bytes, MOST_BYTES - bytes, form, bytes ? ",\n" : "[", (unsigned)draw(100000), names[draw(5)],
+    for (size_t i = 0; bytes < 60000; i++) {
+        const char *between = i == 0 ? in_lists_of ? "[[" : "[" : in_lists_of && i % in_lists_of == 0 ? "],\n[" : ",\n";
+        bytes += (size_t)snprintf(text + bytes, MOST_BYTES - bytes, form, between, (unsigned)draw(100000), names[draw(5)],
                                   (unsigned)draw(100), (unsigned)draw(1000), (unsigned)draw(1000), (unsigned)draw(1000),
                                   draw(2) ? "true" : "false");
+    }
     text[bytes++] = ']';
+    if (in_lists_of)
+        text[bytes++] = ']';
     return bytes;
 }
 
@@ -736,10 +838,18 @@ int main(int words, char **word)
         any[i] = (uint8_t)draw(256);
     }
     static char document[MOST_BYTES];
-    size_t document_bytes = draw_json(document);
+    size_t document_bytes = draw_json(document, 0);
     size_t small_bytes = write_pack(&small, small_text), large_bytes = write_pack(&greatest, large_text);
+    /* A list is a node in a node for each of its members, so a long one would be too deep to print. */
+    static char lists[MOST_BYTES];
+    size_t lists_bytes = draw_json(lists, 20);
     const char *const tax = "tax by day", *const share = "share of std::sort under main", *const top = "top 10 of malloc group by core";
 
+    static struct tree tax_tree, share_tree, lists_tree, deep, deeper;
+    parse_tree(&tax_tree, &small, tax, strlen(tax));
+    parse_tree(&share_tree, &profile, share, strlen(share));
+    parse_tree(&lists_tree, &json, lists, lists_bytes);
+    deep_tree(&deep, 256, 254);
     struct row rows[] = {
         shape_row("shape, small pack", &small, small.count, 0),
         shape_row("shape, json pack", &json, json.count, 0),
@@ -770,8 +880,11 @@ int main(int words, char **word)
         query_row("parse, small pack, tax by day", &small, tax),
         query_row("parse, profile pack, share of ..", &profile, share),
         query_row("parse, profile pack, top 10 of ..", &profile, top),
+        print_row("print, json pack, a long text", &lists_tree, lists, lists_bytes, printed(&lists_tree, lists, lists_bytes)),
+        print_row("print, 65280 records, 256 nodes deep", &deep, lists, lists_bytes, printed(&deep, lists, lists_bytes)),
+        short_print_row("print, profile pack, share of ..", &share_tree, share, printed(&share_tree, share, strlen(share))),
     };
-    enum { ROWS = sizeof rows / sizeof *rows, QUERIES = 3 };
+    enum { ROWS = sizeof rows / sizeof *rows, QUERIES = 3, PRINTOUTS = 3, FIRST_QUERY = ROWS - PRINTOUTS - QUERIES };
 
     for (size_t i = 0; i < ROWS; i++)
         compare(&rows[i].call);
@@ -786,7 +899,14 @@ int main(int words, char **word)
     compare_parses(&profile, share);
     compare_parses(&profile, top);
     compare_parses(&json, "[1, {\"a\": null}, -2.5e3]");
-    printf("The same answer from all, %zu times: on each input below, on images, pack texts and queries with changes, on short scans.\n\n",
+    compare_prints(&tax_tree, "t[]\\by day", strlen("t[]\\by day"));
+    compare_prints(&share_tree, share, strlen(share));
+    for (size_t nodes = 255; nodes < 259; nodes++) {
+        deep_tree(&deeper, nodes, nodes % 2);
+        compare_prints(&deeper, tax, strlen(tax));
+    }
+    printf("The same answer from all, %zu times: on each input below, on images, pack texts, queries and trees with changes, on short "
+           "scans.\n\n",
            compared);
 
     measure_all(rows, ROWS);
@@ -795,7 +915,7 @@ int main(int words, char **word)
         show(&rows[i]);
     printf("\n| %-44s | %10s | %10s | %10s | %10s | %8s |\n|---|---|---|---|---|---|\n", "short queries, us per call", "proved",
            "C's run", "words", "aim", "ratio");
-    for (size_t i = ROWS - QUERIES; i < ROWS; i++)
+    for (size_t i = FIRST_QUERY; i < FIRST_QUERY + QUERIES; i++)
         show_aim(&rows[i]);
     return 0;
 }

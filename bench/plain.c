@@ -1,5 +1,5 @@
-/* Shape, the scan called by itself, the reader and the writer, the check and the parse in plain C, written from document 01 the obvious
- * way: each test leaves at the first wrong word, line or place. */
+/* Shape, the scan called by itself, the reader and the writer, the check, the parse and the printout in plain C, written from documents 01
+ * and 02 the obvious way: each test leaves at the first wrong word, line or place. */
 #include "plain.h"
 
 #include <stdbool.h>
@@ -895,4 +895,135 @@ size_t plain_c_run(const uint16_t *img, size_t img_words, const uint8_t *text, s
     if (out_len < 6)
         return 0;
     return run(img, text, text_bytes, tree, tree_words, allowance, out);
+}
+
+/* ---- the printout ---- */
+
+/* A tree is gone through from its last record to its first: a node, then its children from the last to the first. */
+struct printer {
+    const uint8_t *text;
+    size_t bytes;
+    const uint16_t *tree;
+    /* How many records are left. */
+    size_t left;
+    /* Where the printout goes on, from its end to its front. */
+    uint8_t *at;
+};
+
+static bool one_whole_tree(const uint16_t *tree, size_t words)
+{
+    if (words == 0 || words % 4 != 0)
+        return false;
+    size_t due = 1;
+    for (size_t i = words; i > 0; i -= 4) {
+        const uint16_t *record = tree + i - 4;
+        if (due == 0 || record[0] == 0)
+            return false;
+        due = due - 1 + (record[0] >= 64 ? record[2] : 0);
+    }
+    return due == 0;
+}
+
+/* Is the next tree at most so many nodes deep? */
+static bool flat_enough(struct printer *p, size_t nodes)
+{
+    const uint16_t *record = p->tree + --p->left * 4;
+    if (record[0] < 64)
+        return true;
+    if (nodes == 0)
+        return false;
+    for (size_t i = record[2]; i > 0; i--)
+        if (!flat_enough(p, nodes - 1))
+            return false;
+    return true;
+}
+
+static size_t digits(unsigned n)
+{
+    return n >= 10000 ? 5 : n >= 1000 ? 4 : n >= 100 ? 3 : n >= 10 ? 2 : 1;
+}
+
+static bool escaped(uint8_t byte)
+{
+    return byte == '[' || byte == ']' || byte == '\\';
+}
+
+/* The length of a leaf's bytes, which is 0 where they are not within the text. */
+static size_t leaf_length(const struct printer *p, const uint16_t *leaf)
+{
+    return (size_t)leaf[1] + leaf[2] <= p->bytes ? leaf[2] : 0;
+}
+
+static uint64_t printed_size(const struct printer *p, size_t records)
+{
+    uint64_t size = 0;
+    for (size_t i = 0; i < records; i++) {
+        const uint16_t *record = p->tree + i * 4;
+        if (record[0] >= 64) {
+            size += digits(record[1]) + 2 + record[2];
+            continue;
+        }
+        size_t length = leaf_length(p, record);
+        size += digits(record[0]) + 3 + length;
+        for (size_t k = 0; k < length; k++)
+            size += escaped(p->text[record[1] + k]);
+    }
+    return size;
+}
+
+static void put_before(struct printer *p, char byte)
+{
+    *--p->at = (uint8_t)byte;
+}
+
+static void put_number_before(struct printer *p, unsigned n)
+{
+    do {
+        put_before(p, (char)('0' + n % 10));
+        n /= 10;
+    } while (n);
+}
+
+static void put_tree_before(struct printer *p)
+{
+    const uint16_t *record = p->tree + --p->left * 4;
+    if (record[0] >= 64) {
+        put_before(p, ')');
+        for (size_t i = record[2]; i > 0; i--) {
+            put_tree_before(p);
+            put_before(p, ' ');
+        }
+        put_number_before(p, record[1]);
+        put_before(p, '(');
+        return;
+    }
+    put_before(p, ']');
+    for (size_t k = leaf_length(p, record); k > 0; k--) {
+        uint8_t byte = p->text[record[1] + k - 1];
+        put_before(p, (char)byte);
+        if (escaped(byte))
+            put_before(p, '\\');
+    }
+    put_before(p, '[');
+    put_before(p, ':');
+    put_number_before(p, record[0]);
+}
+
+size_t plain_c_print(const uint8_t *text, size_t text_bytes, const uint16_t *tree, size_t tree_words, uint8_t *buffer, size_t buffer_bytes,
+                     uint64_t *out, size_t out_len)
+{
+    if (out_len < 2)
+        return 0;
+    if (!one_whole_tree(tree, tree_words))
+        return tell2(out, 14, 0);
+    struct printer p = {text, text_bytes, tree, tree_words / 4, NULL};
+    if (!flat_enough(&p, 256))
+        return tell2(out, 15, 0);
+    uint64_t size = printed_size(&p, tree_words / 4);
+    if (size > buffer_bytes)
+        return tell2(out, 3, size);
+    p.left = tree_words / 4;
+    p.at = buffer + size;
+    put_tree_before(&p);
+    return tell2(out, 0, size);
 }

@@ -16,6 +16,8 @@ size_t plain_c_parse(const uint16_t *img, size_t img_words, const uint8_t *text,
                      uint32_t allowance, uint64_t *out, size_t out_len);
 size_t plain_c_run(const uint16_t *img, size_t img_words, const uint8_t *text, size_t text_bytes, uint16_t *tree, size_t tree_words,
                    uint32_t allowance, uint64_t *out, size_t out_len);
+size_t plain_c_print(const uint8_t *text, size_t text_bytes, const uint16_t *tree, size_t tree_words, uint8_t *buffer, size_t buffer_bytes,
+                     uint64_t *out, size_t out_len);
 
 size_t fast_c_shape(const uint16_t *img, size_t img_words, uint64_t *out, size_t out_len);
 size_t fast_c_read(const uint8_t *text, size_t text_bytes, uint16_t *buffer, size_t buffer_words, uint64_t *out, size_t out_len);
@@ -29,5 +31,7 @@ size_t plain_rust_write(const uint16_t *img, size_t img_words, uint8_t *buffer, 
 size_t plain_rust_check(const uint16_t *img, size_t img_words, uint64_t *out, size_t out_len);
 size_t plain_rust_parse(const uint16_t *img, size_t img_words, const uint8_t *text, size_t text_bytes, uint16_t *tree, size_t tree_words,
                         uint32_t allowance, uint64_t *out, size_t out_len);
+size_t plain_rust_print(const uint8_t *text, size_t text_bytes, const uint16_t *tree, size_t tree_words, uint8_t *buffer,
+                        size_t buffer_bytes, uint64_t *out, size_t out_len);
 
 #endif

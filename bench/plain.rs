@@ -1,6 +1,6 @@
-//! Shape, the scan called by itself, the reader and the writer, the check and the parse in plain safe Rust, written from document 01 the
-//! obvious way: each test leaves at the first wrong word, line or place. Only the entry points at the end, which turn C's pointers into
-//! slices, hold `unsafe`.
+//! Shape, the scan called by itself, the reader and the writer, the check, the parse and the printout in plain safe Rust, written from
+//! documents 01 and 02 the obvious way: each test leaves at the first wrong word, line or place. Only the entry points at the end, which
+//! turn C's pointers into slices, hold `unsafe`.
 
 struct Pack {
     terminals: usize,
@@ -802,6 +802,133 @@ fn parse(img: &[u16], text: &[u8], tree: &mut [u16], allowance: u32) -> [u64; 6]
     [code, run.place as u64, length as u64, terminal as u64, run.records as u64, u64::from(run.scanner.moves)]
 }
 
+/// Is this one whole tree of at most 256 nodes on each way down? The error is the code.
+fn one_tree(tree: &[u16]) -> Result<(), u64> {
+    if tree.len() % 4 != 0 {
+        return Err(14);
+    }
+    // The nodes on the longest way down each tree that is nobody's child yet.
+    let mut roots: Vec<u32> = Vec::new();
+    for record in tree.chunks_exact(4) {
+        match record[0] {
+            0 => return Err(14),
+            1..=63 => roots.push(0),
+            _ => {
+                let first = roots.len().checked_sub(usize::from(record[2])).ok_or(14_u64)?;
+                let below = roots[first..].iter().max().copied().unwrap_or(0);
+                roots.truncate(first);
+                roots.push(below + 1);
+            }
+        }
+    }
+    match roots[..] {
+        [nodes] if nodes <= 256 => Ok(()),
+        [_] => Err(15),
+        _ => Err(14),
+    }
+}
+
+fn leaf<'t>(text: &'t [u8], record: &[u16]) -> &'t [u8] {
+    let start = usize::from(record[1]);
+    text.get(start..start + usize::from(record[2])).unwrap_or(&[])
+}
+
+fn is_escaped(byte: u8) -> bool {
+    matches!(byte, b'[' | b']' | b'\\')
+}
+
+fn digits(number: u16) -> usize {
+    match number {
+        0..=9 => 1,
+        10..=99 => 2,
+        100..=999 => 3,
+        1000..=9999 => 4,
+        _ => 5,
+    }
+}
+
+fn printed_size(text: &[u8], tree: &[u16]) -> u64 {
+    let mut size = 0;
+    for record in tree.chunks_exact(4) {
+        size += match record[0] {
+            1..=63 => {
+                let bytes = leaf(text, record);
+                digits(record[0]) + 3 + bytes.len() + bytes.iter().filter(|&&byte| is_escaped(byte)).count()
+            }
+            _ => digits(record[1]) + 2 + usize::from(record[2]),
+        } as u64;
+    }
+    size
+}
+
+/// Prints from the last record to the first, and from the end of the printout to its front.
+struct Printer<'l> {
+    text: &'l [u8],
+    records: std::slice::ChunksExact<'l, u16>,
+    printout: &'l mut [u8],
+    at: usize,
+}
+
+impl Printer<'_> {
+    fn put(&mut self, byte: u8) {
+        self.at -= 1;
+        self.printout[self.at] = byte;
+    }
+
+    fn put_number(&mut self, number: u16) {
+        let mut left = number;
+        loop {
+            self.put(b'0' + (left % 10) as u8);
+            left /= 10;
+            if left == 0 {
+                return;
+            }
+        }
+    }
+
+    fn put_tree(&mut self) {
+        let Some(record) = self.records.next_back() else {
+            return;
+        };
+        if record[0] >= 64 {
+            self.put(b')');
+            for _ in 0..record[2] {
+                self.put_tree();
+                self.put(b' ');
+            }
+            self.put_number(record[1]);
+            self.put(b'(');
+            return;
+        }
+        self.put(b']');
+        for &byte in leaf(self.text, record).iter().rev() {
+            self.put(byte);
+            if is_escaped(byte) {
+                self.put(b'\\');
+            }
+        }
+        self.put(b'[');
+        self.put(b':');
+        self.put_number(record[0]);
+    }
+}
+
+/// Code and number.
+fn print(text: &[u8], tree: &[u16], buffer: &mut [u8]) -> [u64; 2] {
+    if let Err(code) = one_tree(tree) {
+        return [code, 0];
+    }
+    let size = printed_size(text, tree);
+    if size > buffer.len() as u64 {
+        return [3, size];
+    }
+    let at = size as usize;
+    let printout = &mut buffer[..at];
+    let records = tree.chunks_exact(4);
+    Printer { text, records, printout, at }.put_tree();
+    [0, size]
+}
+
 fn tell(out: &mut [u64], numbers: &[u64]) -> usize {
     if out.len() < numbers.len() {
         return 0;
@@ -906,4 +1033,25 @@ pub unsafe extern "C" fn plain_rust_parse(
     let tree = std::slice::from_raw_parts_mut(tree, tree_words);
     let out = std::slice::from_raw_parts_mut(out, out_len);
     tell(out, &parse(img, text, tree, allowance))
+}
+
+/// # Safety
+/// Each pointer has as many elements behind it as its length says.
+#[no_mangle]
+#[allow(clippy::too_many_arguments)]
+pub unsafe extern "C" fn plain_rust_print(
+    text: *const u8,
+    text_bytes: usize,
+    tree: *const u16,
+    tree_words: usize,
+    buffer: *mut u8,
+    buffer_bytes: usize,
+    out: *mut u64,
+    out_len: usize,
+) -> usize {
+    let text = std::slice::from_raw_parts(text, text_bytes);
+    let tree = std::slice::from_raw_parts(tree, tree_words);
+    let buffer = std::slice::from_raw_parts_mut(buffer, buffer_bytes);
+    let out = std::slice::from_raw_parts_mut(out, out_len);
+    tell(out, &print(text, tree, buffer))
 }

@@ -1,6 +1,7 @@
 /* How much stack each entry point of the proved library uses. Each call runs on a thread whose stack was painted before; what is no longer
  * paint was used. What a thread uses that calls nothing is taken off. Every pack of the folder is given, whole and with each of its words
- * wrong in turn, so that the ways of a refusal are gone too; the greatest use counts.
+ * wrong in turn, so that the ways of a refusal are gone too; the greatest use counts. Two trees are printed: a chain of 256 nodes with
+ * leaves beside them, and a node of 65,534 leaves.
  *   stack PACKS    PACKS is the folder of small.pack, json.pack and profile.pack */
 #include <pthread.h>
 #include <stdio.h>
@@ -10,15 +11,22 @@
 #include "../include/zhgarelli.h"
 
 enum { MOST_WORDS = 20589, MOST_BYTES = 65535, TREE_WORDS = 4 * 1000, STACK_BYTES = 1 << 20, PAINT = 0xa5 };
+enum { NODES = 256, BESIDE = 3, LEAVES = 65534 };
 
 static _Alignas(4096) uint8_t stack[STACK_BYTES];
 
 /* What the calls are given. */
-static uint16_t image[MOST_WORDS], buffer[MOST_WORDS], tree[TREE_WORDS];
-static uint8_t pack_text[MOST_BYTES], text[MOST_BYTES];
+static uint16_t image[MOST_WORDS], buffer[MOST_WORDS], tree[TREE_WORDS], chain[4 * NODES * (1 + 2 * BESIDE)], wide[4 * (LEAVES + 1)];
+static uint8_t pack_text[MOST_BYTES], text[MOST_BYTES], printout[10 * LEAVES];
 static size_t words, pack_bytes;
 static const char *query;
 static uint64_t out[6];
+
+static _Noreturn void fail(const char *what)
+{
+    fprintf(stderr, "stack: %s\n", what);
+    exit(1);
+}
 
 static void nothing(void)
 {
@@ -59,6 +67,19 @@ static void leaf(void)
     zhg_leaf((const uint8_t *)query, strlen(query), tree, 4, out, 6);
 }
 
+static void prints(const uint16_t *records, size_t count)
+{
+    zhg_print((const uint8_t *)query, strlen(query), records, count, printout, sizeof printout, out, 6);
+    if (out[0] != 0)
+        fail("a tree is refused");
+}
+
+static void print(void)
+{
+    prints(chain, sizeof chain / sizeof *chain);
+    prints(wide, sizeof wide / sizeof *wide);
+}
+
 static struct entry {
     const char *name;
     void (*call)(void);
@@ -66,14 +87,9 @@ static struct entry {
 } entries[] = {
     {"nothing", nothing, 0}, {"zhg_shape", shape, 0}, {"zhg_scan", scan, 0},   {"zhg_read", reads, 0},
     {"zhg_write", writes, 0}, {"zhg_check", check, 0}, {"zhg_parse", parse, 0}, {"zhg_leaf", leaf, 0},
+    {"zhg_print", print, 0},
 };
 enum { ENTRIES = sizeof entries / sizeof *entries };
-
-static _Noreturn void fail(const char *what)
-{
-    fprintf(stderr, "stack: %s\n", what);
-    exit(1);
-}
 
 static void *start(void *call)
 {
@@ -136,10 +152,33 @@ static void measure_pack(const char *folder, const char *name, const char *good_
     measure();
 }
 
+static uint16_t *put_leaves(uint16_t *at, size_t count)
+{
+    for (; count > 0; count--, at += 4)
+        memcpy(at, (const uint16_t[4]){2, 0, 3, 0}, 8);
+    return at;
+}
+
+static uint16_t *put_node(uint16_t *at, size_t children)
+{
+    memcpy(at, (const uint16_t[4]){64, 1, (uint16_t)children, 0}, 8);
+    return at + 4;
+}
+
+/* Each node of the chain has leaves before the next one and behind it. */
+static void make_trees(void)
+{
+    uint16_t *at = put_leaves(chain, NODES * BESIDE);
+    for (size_t i = 0; i < NODES; i++)
+        at = put_node(put_leaves(at, BESIDE), 2 * BESIDE + (i > 0));
+    put_node(put_leaves(wide, LEAVES), LEAVES);
+}
+
 int main(int count, char **given)
 {
     if (count != 2)
         fail("usage: stack PACKS");
+    make_trees();
     measure_pack(given[1], "small.pack", "tax by day", 1);
     measure_pack(given[1], "json.pack", "[1, {\"a\": null}]", 20);
     measure_pack(given[1], "profile.pack", "share of std::sort under main", 100);

@@ -50,6 +50,12 @@ size_t zhg_parse(const uint16_t *img, size_t img_words, const uint8_t *text, siz
  * fewer words counts as a bad record, and a bad record gives 0 and 0. (Section 3.5.) */
 size_t zhg_leaf(const uint8_t *text, size_t text_bytes, const uint16_t *record, size_t record_words, uint64_t *out, size_t out_len);
 
+/* Prints the derivation that a tree's records stand for: 2 numbers, code (0, 3, 14, 15) and number, in bytes. With 0 the printout stands at
+ * the front of the buffer and the number is its bytes; a refusal leaves the buffer as it was. The words are all of the tree: after a parse
+ * they are its records, four words each. (Section 3.6.) */
+size_t zhg_print(const uint8_t *text, size_t text_bytes, const uint16_t *tree, size_t tree_words, uint8_t *buffer, size_t buffer_bytes,
+                 uint64_t *out, size_t out_len);
+
 #ifdef __cplusplus
 }
 #endif

@@ -62,6 +62,17 @@ mod declared {
             out: *mut u64,
             out_len: usize,
         ) -> usize;
+
+        pub fn zhg_print(
+            text: *const u8,
+            text_bytes: usize,
+            tree: *const u16,
+            tree_words: usize,
+            buffer: *mut u8,
+            buffer_bytes: usize,
+            out: *mut u64,
+            out_len: usize,
+        ) -> usize;
     }
 }
 
@@ -141,5 +152,23 @@ pub fn leaf(text: &[u8], record: &[u16]) -> [u64; 2] {
     let (row, words) = (record.as_ptr(), record.len());
     numbers(|out, room| unsafe {
         declared::zhg_leaf(text.as_ptr(), text.len(), row, words, out, room)
+    })
+}
+
+/// Code and number.
+pub fn print(text: &[u8], tree: &[u16], buffer: &mut [u8]) -> [u64; 2] {
+    let (records, words) = (tree.as_ptr(), tree.len());
+    let (lent, bytes) = (buffer.as_mut_ptr(), buffer.len());
+    numbers(|out, room| unsafe {
+        declared::zhg_print(
+            text.as_ptr(),
+            text.len(),
+            records,
+            words,
+            lent,
+            bytes,
+            out,
+            room,
+        )
     })
 }

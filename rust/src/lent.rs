@@ -1,8 +1,8 @@
-//! The seven functions over memory that the caller lends, with nothing allocated: an image is a row of words, a tree is a row of words with
+//! The eight functions over memory that the caller lends, with nothing allocated: an image is a row of words, a tree is a row of words with
 //! four to a record. [`Pack`](crate::Pack) and [`Tree`](crate::Tree) are the same with memory of their own.
 //!
-//! Each takes any contents. What lent memory holds afterwards is fixed too: the output at its front and the rest as it was, or with a
-//! refusal below code 7 all as it was.
+//! Each takes any contents. What lent memory holds afterwards is fixed too: the output at its front and the rest as it was. A parse that
+//! is refused with 7 to 13 leaves the records that it has written so far, and every other refusal leaves all as it was.
 //!
 //! ```
 //! use zhgarelli::{lent, Refused};
@@ -14,6 +14,9 @@
 //! let work = lent::parse(&image[..words], b"tax by day", &mut tree, u32::MAX)?;
 //! assert_eq!((words, work.records, work.moves), (189, 4, 13));
 //! assert_eq!(lent::leaf(b"tax by day", [tree[4], tree[5], tree[6], tree[7]]), b"by");
+//! let mut printed = [0; 100];
+//! let bytes = lent::print(b"tax by day", &tree[..4 * work.records], &mut printed)?;
+//! assert_eq!(&printed[..bytes], b"(1 2:[tax] 1:[by] 2:[day])");
 //! # Ok::<(), Refused>(())
 //! ```
 
@@ -126,4 +129,13 @@ pub fn leaf(text: &[u8], record: [u16; RECORD_WORDS]) -> &[u8] {
     text.get(start..)
         .and_then(|rest| rest.get(..length))
         .unwrap_or_default()
+}
+
+/// Prints a tree, which is all of the words, and gives the printout's number of bytes. Codes 14, 15 and 3, in this order.
+///
+/// A node is `(`, its production, for each child a blank and the child, and `)`. A leaf is its terminal, `:` and its bytes between `[` and
+/// `]`, with a `\` before each `[`, `]` and `\` among them.
+pub fn print(text: &[u8], tree: &[u16], buffer: &mut [u8]) -> Result<usize, Refused> {
+    let [code, number] = c::print(text, tree, buffer);
+    done(code, [number, 0, 0], Work::default()).map(|()| number as usize)
 }

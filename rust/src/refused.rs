@@ -33,7 +33,8 @@ pub enum Refused {
     },
     /// Code 2: the pack text is over 65,535 bytes, or would be.
     PackTooLong,
-    /// Code 3: the room is too small for the output. [`Pack`](crate::Pack) always lends enough, so only [`lent`](crate::lent) gives it.
+    /// Code 3: the room is too small for the output. [`Pack`](crate::Pack) always lends enough, so only [`lent`](crate::lent) gives it, and
+    /// [`Records::print`](crate::Records::print) where there is not so much memory.
     Room {
         /// The words or bytes that are enough.
         needed: usize,
@@ -102,6 +103,10 @@ pub enum Refused {
         /// What was done before.
         work: Work,
     },
+    /// Code 14: the words to print are not one whole tree.
+    NotOneTree,
+    /// Code 15: the tree to print has more than 256 nodes on one way down.
+    TooDeep,
 }
 
 /// The condition of the check that fails first, with its least places.
@@ -231,12 +236,14 @@ impl Refused {
             11 => Refused::TreeFull { place, work },
             12 => Refused::StackFull { place, work },
             13 => Refused::Allowance { place, work },
+            14 => Refused::NotOneTree,
+            15 => Refused::TooDeep,
             // The codes are proved, so only another library in place of the proved one comes here.
             _ => unreachable!("no refusal has code {code}"),
         }
     }
 
-    /// The code, 1 to 13.
+    /// The code, 1 to 15.
     pub fn code(&self) -> u32 {
         match self {
             Refused::Form { .. } => 1,
@@ -252,6 +259,8 @@ impl Refused {
             Refused::TreeFull { .. } => 11,
             Refused::StackFull { .. } => 12,
             Refused::Allowance { .. } => 13,
+            Refused::NotOneTree => 14,
+            Refused::TooDeep => 15,
         }
     }
 
@@ -259,7 +268,10 @@ impl Refused {
     /// its two places, a parse's are place, length and terminal, and all others have one.
     pub fn values(&self) -> [usize; 3] {
         match *self {
-            Refused::PackTooLong | Refused::QueryTooLong => [0; 3],
+            Refused::PackTooLong
+            | Refused::QueryTooLong
+            | Refused::NotOneTree
+            | Refused::TooDeep => [0; 3],
             Refused::Room { needed } => [needed, 0, 0],
             Refused::Shape { word } => [word, 0, 0],
             Refused::Check(failure) => {
@@ -282,12 +294,12 @@ impl Refused {
         }
     }
 
-    /// The place in the query, for a refusal of a run (code 7 and above).
+    /// The place in the query, for a refusal of a run (codes 7 to 13).
     pub fn place(&self) -> Option<usize> {
         self.work().map(|_| self.values()[0])
     }
 
-    /// What a run had done before it was refused (code 7 and above). A scan has no records.
+    /// What a run had done before it was refused (codes 7 to 13). A scan has no records.
     pub fn work(&self) -> Option<Work> {
         match *self {
             Refused::NoTerminal { work, .. }
@@ -360,6 +372,11 @@ impl fmt::Display for Refused {
                     work.moves
                 )
             }
+            Refused::NotOneTree => write!(f, "the words to print are not one whole tree"),
+            Refused::TooDeep => write!(
+                f,
+                "the tree to print has more than 256 nodes on one way down"
+            ),
         }?;
         write!(f, " (code {})", self.code())
     }

@@ -3,7 +3,7 @@
 use std::iter::FusedIterator;
 use std::ops::Range;
 
-use crate::lent::{self, MOST_RECORDS, RECORD_WORDS};
+use crate::lent::{self, LONGEST_TEXT, MOST_RECORDS, RECORD_WORDS};
 use crate::refused::{Refused, Work};
 
 /// Room for the records of a parse. It can be used again and again.
@@ -192,6 +192,38 @@ impl<'t> Records<'t> {
     /// The trees that they make: one for a query that was accepted, as many as the stack had states above its first for one that was not.
     pub fn forest(&self) -> Forest<'t> {
         Forest::new(*self)
+    }
+
+    /// The printout of the tree that they are: a node in parentheses with its production and its children, a leaf as its terminal and its
+    /// bytes in square brackets, as [`lent::print`] has it. Trees that differ in any of these never print alike.
+    ///
+    /// It is refused with code 14 where the records are not one whole tree, with 15 where more than 256 nodes are on one way down, and with
+    /// 3 where there is not so much memory. Those of a query that was accepted are one whole tree.
+    ///
+    /// ```
+    /// # use zhgarelli::{Pack, Refused, Tree};
+    /// # let text = std::fs::read("../packs/small.pack").unwrap();
+    /// let pack = Pack::read(&text)?;
+    /// let mut tree = Tree::new();
+    /// let parsed = pack.parse("tax by day", &mut tree, u32::MAX)?;
+    /// assert_eq!(parsed.records().print()?, b"(1 2:[tax] 1:[by] 2:[day])");
+    /// # Ok::<(), Refused>(())
+    /// ```
+    pub fn print(&self) -> Result<Vec<u8>, Refused> {
+        // Enough for what a parse writes: each byte of the text is in one leaf at the most and may be escaped; besides a leaf has up to
+        // two digits, `:[]` and a blank, and a node three digits, `()` and a blank. Leaves from elsewhere may share bytes.
+        let enough = 2 * self.text.len().min(LONGEST_TEXT) + 6 * self.len();
+        let mut printed = vec![0; enough];
+        let mut answer = lent::print(self.text, self.words, &mut printed);
+        if let Err(Refused::Room { needed }) = answer {
+            printed.clear();
+            let memory = printed.try_reserve_exact(needed);
+            memory.map_err(|_| Refused::Room { needed })?;
+            printed.resize(needed, 0);
+            answer = lent::print(self.text, self.words, &mut printed);
+        }
+        printed.truncate(answer?);
+        Ok(printed)
     }
 }
 

@@ -5,6 +5,7 @@ use second::compare::{compare, describe};
 use second::engine::{Engine, SECOND};
 use second::gen::mix::Kinds;
 use second::parse::Parsed;
+use second::print::Printed;
 use second::scan::Scanned;
 use second::shape::Shaped;
 use second::text::Written;
@@ -87,6 +88,16 @@ fn leaf(text: &[u8], record: [u16; 4]) -> (usize, usize) {
     (start, part.len())
 }
 
+/// The size of a printout may have more than 32 bits.
+fn print(text: &[u8], tree: &[u16], room: &mut [u8]) -> Printed {
+    let (code, number) = match lent::print(text, tree, room) {
+        Ok(bytes) => (0, bytes),
+        Err(refused) => (refused.code(), refused.values()[0]),
+    };
+    let number = number as u64;
+    Printed { code, number }
+}
+
 const CRATE: Engine = Engine {
     name: "zhgarelli",
     shape,
@@ -96,6 +107,7 @@ const CRATE: Engine = Engine {
     check,
     parse,
     leaf,
+    print,
 };
 
 fn same(kinds: Kinds, cases: usize, seed: u64) {
@@ -114,6 +126,11 @@ fn every_function_gives_the_answers_of_the_second_program() {
 #[test]
 fn the_parse_gives_the_answers_of_the_second_program() {
     same(Kinds::PARSE, 50_000, 17);
+}
+
+#[test]
+fn the_printout_gives_the_answers_of_the_second_program() {
+    same(Kinds::PRINT, 20_000, 18);
 }
 
 #[test]

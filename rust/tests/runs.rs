@@ -302,6 +302,8 @@ fn every_refusal_says_its_code_in_words() {
         Refused::TreeFull { place, work },
         Refused::StackFull { place, work },
         Refused::Allowance { place, work },
+        Refused::NotOneTree,
+        Refused::TooDeep,
     ];
     for (number, refused) in refusals.iter().enumerate() {
         let code = number + 1;
@@ -311,8 +313,9 @@ fn every_refusal_says_its_code_in_words() {
         let first = refused.values()[0];
         let named = first == 0 || code == 5 || words.contains(&first.to_string());
         assert!(named, "{words} does not say {first}");
-        assert_eq!(refused.work().is_some(), code >= 7);
-        assert_eq!(refused.place(), (code >= 7).then_some(place));
+        let of_a_run = (7..=13).contains(&code);
+        assert_eq!(refused.work().is_some(), of_a_run);
+        assert_eq!(refused.place(), of_a_run.then_some(place));
         let _: &dyn std::error::Error = refused;
     }
     let end = Refused::Unexpected {

@@ -1,7 +1,7 @@
 //! The case file: bytes and numbers only, readable with fixed buffers and no heap.
 //!
 //! Each case begins with ten little-endian 32-bit numbers: kind, words, bytes, a, b, c, d, e, f, g; then `words`
-//! image words of two bytes, then `bytes` text bytes. `REUSE` in place of a count takes the image or the text of the
+//! words of two bytes, of an image or a tree, then `bytes` text bytes. `REUSE` in place of a count takes the image or the text of the
 //! case before. The answer file has one line per case, decimal numbers joined by commas and ended by LF.
 
 use std::rc::Rc;
@@ -11,9 +11,11 @@ use crate::sets::Set;
 
 /// A count that takes the image or text of the case before.
 pub const REUSE: u32 = 0xFFFF_FFFF;
-/// The most image words of a case, and the most words of a room for the reader.
+/// The most words of an image or a tree in a case file, and the most words of a room for the reader. (A comparison
+/// also prints larger trees.)
 pub const MOST_WORDS: usize = 20_700;
-/// The most text bytes of a case, and the most bytes of a room for the writer.
+/// The most text bytes of a case, and the most bytes of a room for the writer and the printout. (A comparison also
+/// prints longer texts and lends more room.)
 pub const MOST_BYTES: usize = 65_600;
 /// The most words of a tree in a case file. (A comparison also lends larger ones.)
 pub const MOST_TREE: usize = 40_000;
@@ -55,6 +57,12 @@ pub enum Case {
         text: Text,
         words: [u16; 4],
     },
+    /// The tree stands where other kinds have an image.
+    Print {
+        text: Text,
+        tree: Image,
+        room: u32,
+    },
 }
 
 impl Case {
@@ -67,6 +75,7 @@ impl Case {
             Case::Check { .. } => 5,
             Case::Parse { .. } => 6,
             Case::Leaf { .. } => 7,
+            Case::Print { .. } => 8,
         }
     }
 
@@ -79,6 +88,7 @@ impl Case {
             Case::Check { .. } => "check",
             Case::Parse { .. } => "parse",
             Case::Leaf { .. } => "leaf",
+            Case::Print { .. } => "print",
         }
     }
 
@@ -88,7 +98,8 @@ impl Case {
             | Case::Scan { image, .. }
             | Case::Write { image, .. }
             | Case::Check { image }
-            | Case::Parse { image, .. } => Some(image),
+            | Case::Parse { image, .. }
+            | Case::Print { tree: image, .. } => Some(image),
             Case::Read { .. } | Case::Leaf { .. } => None,
         }
     }
@@ -98,7 +109,8 @@ impl Case {
             Case::Scan { text, .. }
             | Case::Read { text, .. }
             | Case::Parse { text, .. }
-            | Case::Leaf { text, .. } => Some(text),
+            | Case::Leaf { text, .. }
+            | Case::Print { text, .. } => Some(text),
             Case::Shape { .. } | Case::Write { .. } | Case::Check { .. } => None,
         }
     }
@@ -113,7 +125,9 @@ impl Case {
                 allowance,
                 ..
             } => [start, set as u32, (set >> 32) as u32, allowance, 0, 0, 0],
-            Case::Read { room, .. } | Case::Write { room, .. } => [room, 0, 0, 0, 0, 0, 0],
+            Case::Read { room, .. } | Case::Write { room, .. } | Case::Print { room, .. } => {
+                [room, 0, 0, 0, 0, 0, 0]
+            }
             Case::Parse {
                 tree, allowance, ..
             } => [tree, allowance, 0, 0, 0, 0, 0],
@@ -259,6 +273,11 @@ impl<'f> CaseReader<'f> {
                 }
                 Case::Leaf { text, words }
             }
+            8 => Case::Print {
+                text,
+                tree: image,
+                room: limited(a, MOST_BYTES, "bytes of room")? as u32,
+            },
             _ => return Err(format!("no case is of kind {kind}")),
         })
     }
@@ -370,6 +389,11 @@ pub fn answer(engine: &Engine, case: &Case) -> Vec<u64> {
             // A part that is not within the text is a difference like any other.
             let part = text.get(start..start + length).unwrap_or_default();
             vec![start as u64, length as u64, checksum(part.iter().copied())]
+        }
+        Case::Print { text, tree, room } => {
+            let mut lent = byte_pattern(*room);
+            let printed = (engine.print)(text, tree, &mut lent);
+            vec![printed.code.into(), printed.number, checksum(lent)]
         }
     }
 }

@@ -5,7 +5,7 @@ use std::collections::BTreeMap;
 use crate::cases::{answer, line, Case};
 use crate::engine::Engine;
 use crate::gen::mix::{Kinds, Mix};
-use crate::numbers::{QUERY_LONG, SHAPE};
+use crate::numbers::{DONE, QUERY_LONG, SHAPE};
 
 /// How a comparison went.
 #[derive(Default)]
@@ -17,6 +17,8 @@ pub struct Comparison {
     pub checks_past_shape: usize,
     /// Parses that get to their run: neither the query nor the shape is refused.
     pub parses_run: usize,
+    /// Printouts that are made.
+    pub printouts: usize,
     pub difference: Option<Difference>,
 }
 
@@ -35,6 +37,7 @@ impl Comparison {
         match case {
             Case::Check { .. } if !refused => self.checks_past_shape += 1,
             Case::Parse { .. } if !refused => self.parses_run += 1,
+            Case::Print { .. } if code == DONE.into() => self.printouts += 1,
             _ => (),
         }
     }
@@ -76,6 +79,7 @@ pub fn table(comparison: &Comparison) -> String {
             comparison.checks_past_shape,
         ),
         ("parses that get to their run", comparison.parses_run),
+        ("printouts that are made", comparison.printouts),
     ];
     for (what, count) in reached {
         lines.push_str(&format!("{count:9}  {what}\n"));
@@ -103,7 +107,9 @@ pub fn describe(difference: &Difference, names: [&str; 2]) -> String {
             allowance,
             ..
         } => format!(", start {start}, set {set:016x}, allowance {allowance}"),
-        Case::Read { room, .. } | Case::Write { room, .. } => format!(", room {room}"),
+        Case::Read { room, .. } | Case::Write { room, .. } | Case::Print { room, .. } => {
+            format!(", room {room}")
+        }
         Case::Parse {
             tree, allowance, ..
         } => format!(", tree {tree} words, allowance {allowance}"),
@@ -112,7 +118,11 @@ pub fn describe(difference: &Difference, names: [&str; 2]) -> String {
     lines.push('\n');
     if let Some(image) = case.image() {
         let words: Vec<u64> = image.iter().map(|&word| word.into()).collect();
-        lines.push_str(&format!("image: {}\n", line(&words)));
+        let what = match case {
+            Case::Print { .. } => "tree",
+            _ => "image",
+        };
+        lines.push_str(&format!("{what}: {}\n", line(&words)));
     }
     if let Some(text) = case.text() {
         lines.push_str(&format!("text: \"{}\"\n", text.escape_ascii()));

@@ -3,6 +3,7 @@
 use crate::check::{self, Checked};
 use crate::leaf;
 use crate::parse::{self, Parsed};
+use crate::print::{self, Printed};
 use crate::scan::{self, Scanned};
 use crate::sets::Set;
 use crate::shape::{self, Shaped};
@@ -25,6 +26,8 @@ pub struct Engine {
     pub parse: fn(&[u16], &[u8], &mut [u16], u32) -> Parsed,
     /// Text and record; gives start and length of the part of the text that comes back.
     pub leaf: fn(&[u8], [u16; 4]) -> (usize, usize),
+    /// Text, tree, and room for the printout.
+    pub print: fn(&[u8], &[u16], &mut [u8]) -> Printed,
 }
 
 /// The second program itself.
@@ -37,6 +40,7 @@ pub const SECOND: Engine = Engine {
     check: check::check,
     parse: parse::parse,
     leaf: leaf::part,
+    print: print::print,
 };
 
 /// The engines that the second program can be compared with.
@@ -45,4 +49,6 @@ pub const OTHERS: &[Engine] = &[
     crate::proved::PROVED,
     wrong::FILTERS_AFTERWARDS,
     wrong::KEEPS_AFTER_REJECT,
+    wrong::PRINTS_BARE_BACKSLASHES,
+    wrong::PRINTS_CHILDREN_IN_REVERSE,
 ];

@@ -10,6 +10,7 @@ use crate::image::{Action, Pack, FIRST_NONTERMINAL, SIZE_NAMES};
 use crate::leaf;
 use crate::numbers::*;
 use crate::parse::parse;
+use crate::print::{print, Printed};
 use crate::scan::{scan, Meter, Scanner};
 use crate::sets;
 use crate::shape::{self, Rule};
@@ -70,6 +71,39 @@ const MET: [&str; 9] = [
     "parse code 13: one move short of code 0",
 ];
 
+/// What a printout has to meet beside its codes.
+const PRINTED: [&str; 12] = [
+    "print code 0: one leaf",
+    "print code 0: a node without children",
+    "print code 0: a leaf with [",
+    "print code 0: a leaf with ]",
+    "print code 0: a leaf with \\",
+    "print code 0: a leaf that is not within the text",
+    "print code 0: a leaf under 256 nodes",
+    "print code 0: no byte more would fit",
+    "print code 3: one byte short",
+    "print code 15: 257 nodes on one way down",
+    "print code 14: more than 256 nodes on one way down",
+    PRINTED_NOTHING,
+];
+
+const PRINTED_NOTHING: &str = "print code 14: no words";
+
+/// Why words are not one whole tree.
+const NO_TREE: [&str; 4] = [
+    "print code 14: words left over",
+    "print code 14: a first word of 0",
+    "print code 14: too few children",
+    "print code 14: several trees",
+];
+
+/// What is too large for a case file.
+const PRINTED_LARGE: [&str; 3] = [
+    "print code 0: 65535 records",
+    "print code 0: a text over 65535 bytes",
+    "print code 3: a size of 2 to the 32nd or more",
+];
+
 /// Everything that has to be hit.
 pub fn wanted() -> Vec<String> {
     let mut names: Vec<String> = Vec::new();
@@ -95,6 +129,10 @@ pub fn wanted() -> Vec<String> {
         ["a part", "an empty part inside", "the empty front part"]
             .map(|part| format!("leaf: {part}")),
     );
+    names.extend([0, 3, 14, 15].map(|code| format!("print code {code}")));
+    names.extend(PRINTED.map(str::to_string));
+    names.extend(NO_TREE.map(str::to_string));
+    names.extend(PRINTED_LARGE.map(str::to_string));
     names
 }
 
@@ -216,6 +254,59 @@ impl Hits {
                     _ => self.hit("leaf: a part"),
                 }
             }
+            Case::Print { text, tree, room } => {
+                let mut lent = vec![0; *room as usize];
+                let printed = print(text, tree, &mut lent);
+                self.hit(format!("print code {}", printed.code));
+                self.count_print(text, tree, *room as usize, printed);
+            }
+        }
+    }
+
+    fn count_print(&mut self, text: &[u8], tree: &[u16], room: usize, printed: Printed) {
+        let walk = Walk::of(tree);
+        if printed.code == NOT_ONE_TREE {
+            match walk.wrong {
+                _ if tree.is_empty() => self.hit(PRINTED_NOTHING),
+                Some(wrong) => self.hit(NO_TREE[wrong]),
+                None => (),
+            }
+        }
+        let done = printed.code == DONE;
+        let leaves = || {
+            let records = tree.chunks_exact(RECORD_WORDS);
+            records.filter(|record| (1..64).contains(&record[0]))
+        };
+        let with = |byte: u8| {
+            leaves()
+                .any(|leaf| leaf::leaf(text, [leaf[0], leaf[1], leaf[2], leaf[3]]).contains(&byte))
+        };
+        let outside = |leaf: &[u16]| usize::from(leaf[1]) + usize::from(leaf[2]) > text.len();
+        let size = printed.number as usize;
+        let met = [
+            done && tree.len() == RECORD_WORDS && leaves().count() == 1,
+            done && walk.childless,
+            done && with(b'['),
+            done && with(b']'),
+            done && with(b'\\'),
+            done && leaves().any(outside),
+            done && walk.above_leaf == NODES_DOWN,
+            done && size == room,
+            printed.code == ROOM_SMALL && size == room + 1,
+            printed.code == TOO_DEEP && walk.nodes_down == NODES_DOWN + 1,
+            printed.code == NOT_ONE_TREE && walk.nodes_down > NODES_DOWN,
+        ];
+        for (name, _) in PRINTED.into_iter().zip(met).filter(|(_, met)| *met) {
+            self.hit(name);
+        }
+        let large = [
+            done && tree.len() == RECORD_LIMIT * RECORD_WORDS,
+            done && text.len() > TEXT_LIMIT,
+            printed.code == ROOM_SMALL && printed.number >> 32 != 0,
+        ];
+        let large = PRINTED_LARGE.into_iter().zip(large);
+        for (name, _) in large.filter(|(_, met)| *met) {
+            self.hit(name);
         }
     }
 
@@ -274,6 +365,52 @@ fn unexpected(image: &[u16], rest: &[u8]) -> usize {
     }
 }
 
+/// What a walk over tree records meets: it goes on where it can, be they one tree or not.
+#[derive(Default)]
+struct Walk {
+    /// The first of the ways in which they are not one whole tree.
+    wrong: Option<usize>,
+    /// The most nodes on a way down, and on one that ends in a leaf.
+    nodes_down: usize,
+    above_leaf: usize,
+    childless: bool,
+}
+
+impl Walk {
+    fn of(tree: &[u16]) -> Walk {
+        let mut walk = Walk::default();
+        if tree.len() % RECORD_WORDS != 0 {
+            walk.wrong = Some(0);
+        }
+        // For each tree that has no node above it yet: the nodes on a way down, and on one that ends in a leaf.
+        let mut roots: Vec<(usize, Option<usize>)> = Vec::new();
+        for record in tree.chunks_exact(RECORD_WORDS) {
+            let [first, count] = [record[0], record[2]].map(usize::from);
+            if first < FIRST_NONTERMINAL {
+                if first == 0 {
+                    walk.wrong = walk.wrong.or(Some(1));
+                }
+                roots.push((0, Some(0)));
+                continue;
+            }
+            if count > roots.len() {
+                walk.wrong = walk.wrong.or(Some(2));
+            }
+            let children = roots.split_off(roots.len().saturating_sub(count));
+            walk.childless |= count == 0;
+            let down = children.iter().map(|child| child.0).max().unwrap_or(0);
+            let to_leaf = children.iter().filter_map(|child| child.1).max();
+            roots.push((down + 1, to_leaf.map(|nodes| nodes + 1)));
+            walk.nodes_down = walk.nodes_down.max(down + 1);
+            walk.above_leaf = walk.above_leaf.max(to_leaf.map_or(0, |nodes| nodes + 1));
+        }
+        if roots.len() > 1 {
+            walk.wrong = walk.wrong.or(Some(3));
+        }
+        walk
+    }
+}
+
 /// The stacks of a parse, built again from its records: the last one, and how high the highest was.
 struct Stacks {
     last: Vec<usize>,
@@ -326,14 +463,16 @@ fn refused_action(image: &[u16], rest: &[u8], stack: &[usize], code: u32) -> Str
     format!("parse code {code}: {what}")
 }
 
-/// Counts the hits of a case file. The ways to break a text are not seen in it.
+/// Counts the hits of a case file. The ways to break a text are not seen in it, and what is too large for one is not
+/// there.
 pub fn of_file(file: &[u8]) -> Result<BTreeMap<String, usize>, String> {
     let mut hits = Hits::new();
     for case in CaseReader::new(file) {
         hits.count(&case?);
     }
-    hits.counts
-        .retain(|name, _| !name.starts_with("text break"));
+    hits.counts.retain(|name, _| {
+        !name.starts_with("text break") && !PRINTED_LARGE.contains(&name.as_str())
+    });
     Ok(hits.counts)
 }
 

@@ -1,4 +1,4 @@
-//! The second program: an independent reading of document 01 in plain Rust, and an independent generator of packs
+//! The second program: an independent reading of documents 01 and 02 in plain Rust, and an independent generator of packs
 //! and queries. The library's modules follow the document's sections; `cases`, `engine`, `hits`, `promise` and
 //! `gen` use it to compare answers.
 
@@ -7,6 +7,7 @@ pub mod image;
 pub mod leaf;
 pub mod numbers;
 pub mod parse;
+pub mod print;
 pub mod readq;
 pub mod scan;
 pub mod sets;

@@ -14,12 +14,12 @@ use second::readq::readq;
 use second::store::{store, File};
 
 const USAGE: &str = "\
-usage: second write-cases SEED scan|text|parse CASES_OUT ANSWERS_OUT
+usage: second write-cases SEED scan|text|parse|print CASES_OUT ANSWERS_OUT
        second answer CASES_IN ANSWERS_OUT
        second hits N SEED
        second promise N SEED
        second readq PACKTEXT_FILE
-       second compare N SEED [all|scan|text|check|parse [ENGINE]]";
+       second compare N SEED [all|scan|text|check|parse|print [ENGINE]]";
 
 fn number(word: &str) -> Result<u64, String> {
     word.parse().map_err(|_| format!("{word} is no number"))

@@ -1,4 +1,4 @@
-//! The numbers given back, by name ("Numbers given back" in document 01), and the limits of the texts.
+//! The numbers given back, by name ("Numbers given back" in document 01, and document 02), and the limits of the texts.
 
 pub const DONE: u32 = 0;
 /// Text not of the form: gives the start of the first wrong or missing line, or of what follows the last.
@@ -27,6 +27,10 @@ pub const TREE_FULL: u32 = 11;
 pub const STACK_FULL: u32 = 12;
 /// Allowance used up: gives the place where the scan began.
 pub const ALLOWANCE: u32 = 13;
+/// Printout: not one whole tree, words left over, or a first word of 0.
+pub const NOT_ONE_TREE: u32 = 14;
+/// Printout: more than 256 nodes on one way down.
+pub const TOO_DEEP: u32 = 15;
 
 /// The most bytes of a pack text and of a query.
 pub const TEXT_LIMIT: usize = 65_535;
@@ -34,5 +38,7 @@ pub const TEXT_LIMIT: usize = 65_535;
 pub const STACK_LIMIT: usize = 512;
 /// The most records of a tree.
 pub const RECORD_LIMIT: usize = 65_535;
+/// The most nodes on one way down a tree that is printed.
+pub const NODES_DOWN: usize = 256;
 /// Words of a record.
 pub const RECORD_WORDS: usize = 4;

@@ -1,12 +1,14 @@
 //! Demand 3, as far as a program can test it: for a pack that passes, no parse ends with code 9 or 10; the records of
 //! an accepted text are one derivation, its leaves and skipped layout cover the text once and in order, and each leaf
-//! is the longest one by the definition. Nothing here uses the scan or the parse but to get the answer that is tested.
+//! is the longest one by the definition. And the tree of an accepted text prints, if it is not too deep. Nothing here
+//! uses the scan or the parse but to get the answer that is tested.
 
 use crate::check::check;
 use crate::gen::mix::Promised;
 use crate::image::{Action, Pack, FIRST_NONTERMINAL};
-use crate::numbers::{DONE, RECORD_WORDS, SEVERAL, STUCK};
+use crate::numbers::{DONE, RECORD_WORDS, ROOM_SMALL, SEVERAL, STUCK, TOO_DEEP};
 use crate::parse::parse;
+use crate::print::print;
 use crate::sets::{self, Set};
 
 /// Counts of a run.
@@ -16,6 +18,7 @@ pub struct Counts {
     pub parses: usize,
     pub leaves: usize,
     pub by_group: usize,
+    pub too_deep: usize,
     pub codes: [usize; 14],
 }
 
@@ -42,7 +45,8 @@ pub fn run(parses: usize, seed: u64) -> Result<Counts, String> {
                 .collect();
             let kept = match parsed.code {
                 SEVERAL | STUCK => Err(format!("code {}", parsed.code)),
-                DONE => accepted(&pack, &query.text, &records),
+                DONE => accepted(&pack, &query.text, &records)
+                    .and_then(|()| prints(&query.text, &records, &mut counts)),
                 _ => Ok(()),
             }
             .and_then(|()| leaves(&pack, &query.text, &records, &mut counts));
@@ -62,6 +66,18 @@ pub fn run(parses: usize, seed: u64) -> Result<Counts, String> {
 pub fn accepted(pack: &Pack, text: &[u8], records: &[[u16; RECORD_WORDS]]) -> Result<(), String> {
     derivation(pack, records)?;
     cover(pack, text, records)
+}
+
+/// An accepted tree is whole: it wants room, and is refused otherwise only where it is too deep.
+fn prints(text: &[u8], records: &[[u16; RECORD_WORDS]], counts: &mut Counts) -> Result<(), String> {
+    match print(text, &records.concat(), &mut []).code {
+        ROOM_SMALL => Ok(()),
+        TOO_DEEP => {
+            counts.too_deep += 1;
+            Ok(())
+        }
+        code => Err(format!("an accepted tree prints with code {code}")),
+    }
 }
 
 /// The records, children before their node, are one derivation from the start symbol by the pack's productions.
@@ -208,8 +224,13 @@ pub fn leaves(
 /// The counts as lines.
 pub fn table(counts: &Counts) -> String {
     let mut lines = format!(
-        "packs: {}\nparses: {}\naccepted: {}\nleaves: {}\nleaves chosen by a group: {}\n",
-        counts.packs, counts.parses, counts.codes[0], counts.leaves, counts.by_group
+        "packs: {}\nparses: {}\naccepted: {}\nof these too deep to print: {}\nleaves: {}\nleaves chosen by a group: {}\n",
+        counts.packs,
+        counts.parses,
+        counts.codes[0],
+        counts.too_deep,
+        counts.leaves,
+        counts.by_group
     );
     for (code, count) in counts.codes.iter().enumerate() {
         if *count > 0 {

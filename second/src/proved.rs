@@ -7,6 +7,7 @@ use crate::check::Checked;
 use crate::engine::Engine;
 use crate::numbers::RECORD_WORDS;
 use crate::parse::Parsed;
+use crate::print::Printed;
 use crate::scan::Scanned;
 use crate::sets::Set;
 use crate::shape::Shaped;
@@ -64,6 +65,17 @@ extern "C" {
         text_bytes: usize,
         record: *const u16,
         record_words: usize,
+        out: *mut u64,
+        out_len: usize,
+    ) -> usize;
+
+    fn zhg_print(
+        text: *const u8,
+        text_bytes: usize,
+        tree: *const u16,
+        tree_words: usize,
+        buffer: *mut u8,
+        buffer_bytes: usize,
         out: *mut u64,
         out_len: usize,
     ) -> usize;
@@ -194,6 +206,24 @@ fn leaf(text: &[u8], words: [u16; RECORD_WORDS]) -> (usize, usize) {
     (start as usize, length as usize)
 }
 
+fn print(text: &[u8], tree: &[u16], room: &mut [u8]) -> Printed {
+    let (lent, bytes) = (room.as_mut_ptr(), room.len());
+    let [code, number] = numbers(|out, room| unsafe {
+        zhg_print(
+            text.as_ptr(),
+            text.len(),
+            tree.as_ptr(),
+            tree.len(),
+            lent,
+            bytes,
+            out,
+            room,
+        )
+    });
+    let code = code.try_into().expect("the code has 32 bits");
+    Printed { code, number }
+}
+
 pub const PROVED: Engine = Engine {
     name: "proved",
     shape,
@@ -203,4 +233,5 @@ pub const PROVED: Engine = Engine {
     check,
     parse,
     leaf,
+    print,
 };

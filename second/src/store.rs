@@ -13,10 +13,7 @@ use crate::numbers::TEXT_LIMIT;
 use crate::sets::Set;
 use crate::text::text_of;
 
-/// About how large a case file becomes.
-const FILE_BYTES: usize = 445_000;
-
-/// The three files.
+/// The four files.
 #[derive(Clone, Copy, Debug, PartialEq, Eq)]
 pub enum File {
     /// Shape, and the scan called by itself.
@@ -25,6 +22,8 @@ pub enum File {
     Text,
     /// Check, parse and leaf.
     Parse,
+    /// The printout.
+    Print,
 }
 
 impl File {
@@ -33,7 +32,16 @@ impl File {
             "scan" => Some(File::Scan),
             "text" => Some(File::Text),
             "parse" => Some(File::Parse),
+            "print" => Some(File::Print),
             _ => None,
+        }
+    }
+
+    /// About how large the case file becomes.
+    fn bytes(self) -> usize {
+        match self {
+            File::Print => 25_000,
+            _ => 445_000,
         }
     }
 }
@@ -47,6 +55,7 @@ pub fn store(file: File, seed: u64) -> Result<(Vec<u8>, String), String> {
             check: true,
             ..Kinds::PARSE
         },
+        File::Print => Kinds::PRINT,
     };
     let mut mix = Mix::new(seed, kinds, true);
     let mut writer = CaseWriter::new();
@@ -54,9 +63,10 @@ pub fn store(file: File, seed: u64) -> Result<(Vec<u8>, String), String> {
         File::Scan => scan_cases(&mut mix),
         File::Text => text_cases(&mut mix),
         File::Parse => parse_cases(&mut mix),
+        File::Print => print_cases(),
     };
     first.iter().for_each(|case| writer.put(case));
-    while writer.bytes.len() < FILE_BYTES {
+    while writer.bytes.len() < file.bytes() {
         mix.bundle().iter().for_each(|case| writer.put(case));
     }
     let lines = answers(&SECOND, &writer.bytes)?;
@@ -492,5 +502,92 @@ fn parse_cases(mix: &mut Mix) -> Vec<Case> {
         }
     }
     cases.extend(mix.greatest_bundle());
+    cases
+}
+
+/// A chain of so many nodes of one child each, with a leaf at its end or without.
+fn chain(nodes: usize, leaf: bool) -> Vec<u16> {
+    let mut words = if leaf { vec![2, 0, 3, 0] } else { Vec::new() };
+    for node in 0..nodes {
+        let children = u16::from(leaf || node > 0);
+        words.extend([64, node as u16, children, 0]);
+    }
+    words
+}
+
+fn print_cases() -> Vec<Case> {
+    let (query, _, records) = TAX_BY_DAY;
+    let day = text(query.as_bytes());
+    let mut cases = Vec::new();
+    let mut prints = |text: &Text, tree: Vec<u16>, rooms: &[u32]| {
+        let tree: Image = Rc::new(tree);
+        cases.extend(rooms.iter().map(|&room| Case::Print {
+            text: text.clone(),
+            tree: tree.clone(),
+            room,
+        }));
+    };
+    // `(1 2:[tax] 1:[by] 2:[day])` has 26 bytes.
+    prints(&day, records.concat(), &[26, 27, 100, 25, 1, 0]);
+    // Its words cut short everywhere, and more of them.
+    for words in 0..16 {
+        prints(&day, records.concat()[..words].to_vec(), &[40]);
+    }
+    for more in [&[0][..], &[0; 4], &[1, 0, 3, 0], &[64, 0, 0, 0]] {
+        prints(&day, [&records.concat(), more].concat(), &[40, 0]);
+    }
+    prints(
+        &day,
+        [&records.concat()[..], &[64, 0, 1, 0]].concat(),
+        &[40],
+    );
+    // Its count of children changed, and each first word.
+    for count in [0, 2, 4, 65_535] {
+        let mut tree = records.concat();
+        tree[14] = count;
+        prints(&day, tree, &[40]);
+    }
+    for record in 0..4 {
+        for first in [0, 1, 63, 64, 65_535] {
+            let mut tree = records.concat();
+            tree[4 * record] = first;
+            prints(&day, tree, &[40]);
+        }
+    }
+    // Leaves and nodes by themselves, the bytes that are escaped, leaves that are not within the text.
+    let escaped = text(b"[]\\a\\]");
+    for leaf in [
+        [1, 0, 6, 0],
+        [63, 0, 1, 9],
+        [9, 1, 1, 0],
+        [10, 2, 1, 0],
+        [10, 3, 1, 0],
+        [1, 6, 0, 0],
+        [1, 4, 2, 0],
+        [1, 4, 3, 0],
+        [1, 7, 0, 0],
+        [1, 65_535, 65_535, 0],
+        [0, 0, 1, 0],
+    ] {
+        prints(&escaped, leaf.to_vec(), &[20]);
+    }
+    for production in [0, 9, 10, 99, 100, 999, 1_000, 9_999, 10_000, 65_535] {
+        prints(&escaped, vec![65_535, production, 0, 7], &[7]);
+    }
+    prints(&text(b""), vec![1, 0, 0, 0], &[4, 3]);
+    // Chains about the limit, whole and with one leaf more behind, which comes before it.
+    for nodes in [256, 257] {
+        prints(&day, chain(nodes, false), &[2_000, 10]);
+        prints(&day, chain(nodes, true), &[2_000, 10]);
+    }
+    prints(
+        &day,
+        [chain(257, true), vec![1, 0, 1, 0]].concat(),
+        &[2_000],
+    );
+    // The deepest way is not the last one.
+    let wide = [chain(255, true), vec![2, 7, 3, 0], vec![64, 1, 2, 0]].concat();
+    prints(&day, wide.clone(), &[2_000]);
+    prints(&day, [wide, vec![64, 2, 1, 0]].concat(), &[2_000]);
     cases
 }

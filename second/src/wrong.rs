@@ -1,8 +1,10 @@
 //! Engines that are wrong on purpose ("Errors that look right" in document 01), to see that a comparison finds them.
 
 use crate::engine::{Engine, SECOND};
-use crate::image::Pack;
-use crate::numbers::{ALLOWANCE, DONE, TEXT_LIMIT};
+use crate::image::{Pack, FIRST_NONTERMINAL};
+use crate::leaf::leaf;
+use crate::numbers::{ALLOWANCE, DONE, RECORD_WORDS, ROOM_SMALL, TEXT_LIMIT};
+use crate::print::{print, Printed};
 use crate::scan::Scanned;
 use crate::sets::{self, Set};
 use crate::shape;
@@ -29,6 +31,73 @@ pub const KEEPS_AFTER_REJECT: Engine = Engine {
     },
     ..SECOND
 };
+
+/// Does not put a backslash before a backslash.
+pub const PRINTS_BARE_BACKSLASHES: Engine = Engine {
+    name: "prints-bare-backslashes",
+    print: |text, tree, room| wrong_print(text, tree, room, |byte| byte != b'\\', false),
+    ..SECOND
+};
+
+/// Prints the children of a node from the last to the first.
+pub const PRINTS_CHILDREN_IN_REVERSE: Engine = Engine {
+    name: "prints-children-in-reverse",
+    print: |text, tree, room| wrong_print(text, tree, room, |_| true, true),
+    ..SECOND
+};
+
+/// A printout like the true one, but for: the bytes that are escaped where they should be, and the order of children. It
+/// joins the printouts of the trees that stand before each record.
+fn wrong_print(
+    text: &[u8],
+    tree: &[u16],
+    room: &mut [u8],
+    escapes: impl Fn(u8) -> bool,
+    reverse: bool,
+) -> Printed {
+    let printed = print(text, tree, &mut []);
+    if printed.code != ROOM_SMALL || printed.number > 1 << 20 {
+        return print(text, tree, room);
+    }
+    let mut parts: Vec<Vec<u8>> = Vec::new();
+    for record in tree.chunks_exact(RECORD_WORDS) {
+        let mut part = Vec::new();
+        if usize::from(record[0]) < FIRST_NONTERMINAL {
+            part.extend(format!("{}:[", record[0]).bytes());
+            for &byte in leaf(text, [record[0], record[1], record[2], record[3]]) {
+                if b"[]\\".contains(&byte) && escapes(byte) {
+                    part.push(b'\\');
+                }
+                part.push(byte);
+            }
+            part.push(b']');
+        } else {
+            let mut children = parts.split_off(parts.len() - usize::from(record[2]));
+            if reverse {
+                children.reverse();
+            }
+            part.extend(format!("({}", record[1]).bytes());
+            for child in children {
+                part.push(b' ');
+                part.extend(child);
+            }
+            part.push(b')');
+        }
+        parts.push(part);
+    }
+    let whole = parts.concat();
+    let number = whole.len() as u64;
+    match room.get_mut(..whole.len()) {
+        Some(front) => {
+            front.copy_from_slice(&whole);
+            Printed { code: DONE, number }
+        }
+        None => Printed {
+            code: ROOM_SMALL,
+            number,
+        },
+    }
+}
 
 /// A scan like the true one, but for: the set scanned with, the set that filters the match at the end, and whether a
 /// reject forgets.

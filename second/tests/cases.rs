@@ -51,6 +51,17 @@ fn checksums_and_patterns_by_hand() {
     assert_eq!(byte_pattern(3), [91, 2, 169]);
 }
 
+/// A comparison also has printouts that are too large for a case file.
+fn fits_a_file(case: &Case) -> bool {
+    let room = match case {
+        Case::Print { room, .. } => *room as usize,
+        _ => 0,
+    };
+    let words = case.image().map_or(0, |image| image.len());
+    let bytes = case.text().map_or(0, |text| text.len());
+    words <= MOST_WORDS && bytes.max(room) <= MOST_BYTES
+}
+
 #[test]
 fn generated_cases_are_read_as_they_were_written() {
     for (seed, small) in [(1, true), (2, false)] {
@@ -58,7 +69,7 @@ fn generated_cases_are_read_as_they_were_written() {
         let mut writer = CaseWriter::new();
         let mut cases = Vec::new();
         for _ in 0..60 {
-            cases.extend(mix.bundle());
+            cases.extend(mix.bundle().into_iter().filter(fits_a_file));
         }
         cases.iter().for_each(|case| writer.put(case));
         assert_eq!(writer.cases, cases.len());
@@ -71,11 +82,16 @@ fn generated_cases_are_read_as_they_were_written() {
 fn the_stored_files_are_small_and_deterministic_and_cover_everything() {
     let mut total = 0;
     let mut counts = std::collections::BTreeMap::new();
-    for file in [File::Scan, File::Text, File::Parse] {
+    for (file, sizes) in [
+        (File::Scan, 300_000..450_000),
+        (File::Text, 300_000..450_000),
+        (File::Parse, 300_000..450_000),
+        (File::Print, 20_000..40_000),
+    ] {
         let (bytes, lines) = store(file, 1).unwrap();
         assert!(store(file, 1).unwrap() == (bytes.clone(), lines.clone()));
         assert!(store(file, 2).unwrap().0 != bytes);
-        assert!((300_000..450_000).contains(&bytes.len()), "{}", bytes.len());
+        assert!(sizes.contains(&bytes.len()), "{}", bytes.len());
         total += bytes.len() + lines.len();
         // Answered again from the file alone.
         assert!(answers(&SECOND, &bytes).unwrap() == lines);
@@ -124,7 +140,7 @@ fn what_is_no_case_file_is_refused() {
         answers(&SECOND, &file)
     };
     assert!(with(0, 0).is_err());
-    assert!(with(0, 8).is_err());
+    assert!(with(0, 9).is_err());
     assert!(with(1, 20_701).is_err());
     assert!(with(2, 65_601).is_err());
 }

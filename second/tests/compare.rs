@@ -6,15 +6,18 @@ use second::engine::{Engine, SECOND};
 use second::gen::mix::Kinds;
 use second::leaf;
 use second::parse::parse;
+use second::print::{print, Printed};
 use second::text::read;
-use second::wrong::{FILTERS_AFTERWARDS, KEEPS_AFTER_REJECT};
+use second::wrong::{
+    FILTERS_AFTERWARDS, KEEPS_AFTER_REJECT, PRINTS_BARE_BACKSLASHES, PRINTS_CHILDREN_IN_REVERSE,
+};
 
 #[test]
 fn the_second_program_agrees_with_itself() {
     let comparison = compare(&SECOND, &SECOND, Kinds::ALL, 3_000, 1);
     assert_eq!(comparison.cases, 3_000);
     assert_eq!(comparison.kinds.values().sum::<usize>(), 3_000);
-    assert_eq!(comparison.kinds.len(), 7);
+    assert_eq!(comparison.kinds.len(), 8);
     assert!(comparison.difference.is_none());
     // Where only the check or the parse is wanted, nearly all cases get past what is refused before.
     let checks = compare(&SECOND, &SECOND, Kinds::CHECK, 3_000, 1);
@@ -25,6 +28,9 @@ fn the_second_program_agrees_with_itself() {
     );
     let parses = compare(&SECOND, &SECOND, Kinds::PARSE, 3_000, 1);
     assert!(parses.parses_run > 2_300, "{}", parses.parses_run);
+    // Of the printouts a third is made.
+    let prints = compare(&SECOND, &SECOND, Kinds::PRINT, 3_000, 1);
+    assert!(prints.printouts > 1_000, "{}", prints.printouts);
 }
 
 /// The name of the kind in which a wrong engine is found, and the difference in words.
@@ -110,4 +116,55 @@ fn a_leaf_is_compared_to_its_start() {
         ..SECOND
     };
     assert_eq!(finds(&gives_the_empty_part_at_the_front).0, "leaf");
+}
+
+#[test]
+fn wrong_printouts_are_found() {
+    let wrong: [fn(&[u8], &[u16], &mut [u8]) -> Printed; 6] = [
+        // Words behind the last whole record are not looked at.
+        |text, tree, room| print(text, &tree[..tree.len() / 4 * 4], room),
+        // No words print nothing.
+        |text, tree, room| match tree {
+            [] => Printed::default(),
+            _ => print(text, tree, room),
+        },
+        // A byte is written before the refusal.
+        |text, tree, room| {
+            let printed = print(text, tree, room);
+            if let (3, Some(byte)) = (printed.code, room.first_mut()) {
+                *byte ^= 1;
+            }
+            printed
+        },
+        // One node more is let through: the top of a tree whose top has one child is left out of the count.
+        |text, tree, room| match (print(text, tree, room), tree) {
+            (Printed { code: 15, .. }, [below @ .., _, _, 1, _]) => print(text, below, room),
+            (printed, _) => printed,
+        },
+        // The size is cut to 32 bits.
+        |text, tree, room| {
+            let printed = print(text, tree, room);
+            Printed {
+                number: printed.number & 0xFFFF_FFFF,
+                ..printed
+            }
+        },
+        // Another order of refusals: 3 before 15.
+        |text, tree, room| match print(text, tree, room) {
+            Printed { code: 15, .. } if room.len() < 256 => Printed { code: 3, number: 0 },
+            printed => printed,
+        },
+    ];
+    for print in wrong {
+        assert_eq!(finds(&Engine { print, ..SECOND }).0, "print");
+    }
+}
+
+#[test]
+fn printouts_without_their_escapes_and_of_children_in_reverse_are_found() {
+    for wrong in [PRINTS_BARE_BACKSLASHES, PRINTS_CHILDREN_IN_REVERSE] {
+        let (kind, words) = finds(&wrong);
+        assert_eq!(kind, "print");
+        assert!(words.contains("tree: "), "{words}");
+    }
 }

@@ -1,4 +1,4 @@
-//! The generator: what each source promises, and that a run of 10,000 cases hits everything.
+//! The generator: what each source promises, and that a run of 15,000 cases hits everything.
 
 use second::check::check;
 use second::gen::conditions;
@@ -140,10 +140,10 @@ fn every_way_to_break_a_text_breaks_it() {
 }
 
 #[test]
-fn a_run_of_10_000_cases_hits_everything() {
+fn a_run_of_15_000_cases_hits_everything() {
     for seed in [1, 2] {
-        let hits = hits::run(10_000, seed);
-        assert_eq!(hits.cases, 10_000);
+        let hits = hits::run(15_000, seed);
+        assert_eq!(hits.cases, 15_000);
         assert_eq!(hits.missed(), Vec::<String>::new(), "seed {seed}");
         let wanted = hits::wanted();
         let others: Vec<&String> = hits.counts.keys().filter(|n| !wanted.contains(n)).collect();

@@ -11,6 +11,8 @@ ghost use Rattle.capi.specs.Numbers.{told, written, ofShape, ofScan, ofT
 ghost use Rattle.numbers.specs.Front.{bufferAfter};
 ghost use Rattle.text.specs.Reader.{read};
 ghost use Rattle.text.specs.Writer.{write};
+ghost use Rattle.print.specs.Print.{print};
+ghost use lib.ListN.{length};
 use parse::Part;
 
 // Two numbers, where there is room for them.
@@ -194,4 +196,16 @@ pub extern "C" fn zhg_leaf(text: &[u8], row: &[u16], out: &mut [u64]) -> usize
 {
     let part = part_of(text, row);
     put2(out, part.start as u64, part.length as u64)
+}
+
+// Prints the derivation that a tree's records stand for: code and number; the bytes go to the front of the buffer. The words of the tree
+// are all of it.
+#[no_mangle]
+pub extern "C" fn zhg_print(text: &[u8], tree: &[u16], buffer: &mut [u8], out: &mut [u64]) -> usize
+    ensures { λ r. ⌜ r ≡ told (now (out .entry)) (ofText (print (now (text .entry)) (now (tree .entry)) (length (now (buffer .entry))))) ⌝ }
+    ensures { λ r. ⌜ now (out .exit) ≡ written (now (out .entry)) (ofText (print (now (text .entry)) (now (tree .entry)) (length (now (buffer .entry))))) ⌝ }
+    ensures { λ r. ⌜ now (buffer .exit) ≡ bufferAfter (now (buffer .entry)) (print (now (text .entry)) (now (tree .entry)) (length (now (buffer .entry)))) ⌝ }
+{
+    let printed = printer::print(text, tree, buffer);
+    put2(out, printed.code as u64, printed.number as u64)
 }

@@ -142,6 +142,19 @@ fn write_with(img: &[u16], room: &mut [u8], n: usize) {
     write_into(img, &mut room[..k]);
 }
 
+fn print_into(tree: &[u16], text: &[u8], room: &mut [u8]) {
+    pattern_of_bytes(room);
+    let a = printer::print(text, tree, room);
+    print(a.code as u64, b',');
+    print(a.number as u64, b',');
+    print(sum_of_bytes(room), b'\n');
+}
+
+fn print_with(tree: &[u16], text: &[u8], room: &mut [u8], n: usize) {
+    let k = parts::least(n, room.len());
+    print_into(tree, text, &mut room[..k]);
+}
+
 fn read(text: &[u8], n: usize) {
     let mut room = [0u16; 20700];
     read_with(text, &mut room, n);
@@ -150,6 +163,11 @@ fn read(text: &[u8], n: usize) {
 fn write(img: &[u16], n: usize) {
     let mut room = [0u8; 65600];
     write_with(img, &mut room, n);
+}
+
+fn printout(tree: &[u16], text: &[u8], n: usize) {
+    let mut room = [0u8; 65600];
+    print_with(tree, text, &mut room, n);
 }
 
 fn check(img: &[u16]) {
@@ -235,6 +253,10 @@ fn answer(head: &[u8; 40], img: &[u16], text: &[u8]) {
     }
     if kind == 7 {
         leaf(text, head);
+        return;
+    }
+    if kind == 8 {
+        printout(img, text, number(head, 3));
         return;
     }
     io::write_all(STDOUT_FILENO, b"\n");

@@ -18,6 +18,7 @@ is all that stands on standard input, to the last byte.
   --allowance N     read, draw: the most moves of the scanner (without it 4294967295)
   --room N          read, draw: the most records of the tree (without it 65535)
   --depth N         read: how many levels of the tree are drawn (without it 100)
+  --print           read: the tree as nested parentheses, the words in it byte for byte; with --json a field
   --state N         show: the row of a parse state
   --scan N          show: a scan state
   -o FILE           draw: where the picture goes (without it standard output)
@@ -64,6 +65,7 @@ pub struct Args {
     pub allowance: u32,
     pub room: usize,
     pub depth: usize,
+    pub print: bool,
     pub state: Option<usize>,
     pub scan: Option<usize>,
     pub json: bool,
@@ -109,6 +111,7 @@ pub fn read(words: impl IntoIterator<Item = OsString>) -> Result<Wanted, String>
         allowance: u32::MAX,
         room: usize::MAX,
         depth: 100,
+        print: false,
         state: None,
         scan: None,
         json: false,
@@ -135,6 +138,7 @@ pub fn read(words: impl IntoIterator<Item = OsString>) -> Result<Wanted, String>
             "--help" | "-h" => return Ok(Wanted::Help),
             "--version" | "-V" => return Ok(Wanted::Version),
             "--json" => args.json = true,
+            "--print" => args.print = true,
             "--file" => args.file = Some(value()?.into()),
             "--names" => args.names = Some(value()?.into()),
             "-o" => args.output = Some(value()?.into()),
@@ -196,7 +200,7 @@ fn fits(args: &Args, given: &[String]) -> Result<(), String> {
     for option in given {
         let good = match option.as_str() {
             "--file" | "--allowance" | "--room" => reads,
-            "--depth" => args.command == Command::Read,
+            "--depth" | "--print" => args.command == Command::Read,
             "--state" | "--scan" => args.command == Command::Show,
             "-o" => args.command == Command::Draw,
             "--json" => args.command != Command::Draw,

@@ -32,16 +32,16 @@ use read::Reading;
 /// What a command comes to: whether it is done or refused, and what it prints.
 struct Outcome {
     done: bool,
-    printed: String,
+    printed: Vec<u8>,
     /// What is said of a refusal where the output is not for people.
     said: String,
 }
 
 impl Outcome {
-    fn printed((done, printed): (bool, String)) -> Outcome {
+    fn printed((done, printed): (bool, impl Into<Vec<u8>>)) -> Outcome {
         Outcome {
             done,
-            printed,
+            printed: printed.into(),
             said: String::new(),
         }
     }
@@ -79,7 +79,7 @@ fn refused_pack(args: &Args, packed: &Packed, paint: Paint) -> Option<Outcome> {
     Some(match args.command {
         Command::Draw => Outcome {
             done: false,
-            printed: String::new(),
+            printed: Vec::new(),
             said: whole,
         },
         _ => Outcome::printed((false, whole)),
@@ -95,7 +95,7 @@ fn draw(args: &Args, pack: &Pack, names: &names::Names, query: &[u8]) -> Result<
         let said = refusal::of_query(pack, names, records, &refused).words(query, plain);
         return Ok(Outcome {
             done: false,
-            printed: String::new(),
+            printed: Vec::new(),
             said,
         });
     }
@@ -134,6 +134,7 @@ fn run(args: &Args) -> Result<Outcome, String> {
                 query: &query,
                 room: args.room,
                 allowance: args.allowance,
+                print: args.print,
             };
             Ok(Outcome::printed(
                 reading.answer(args.depth, args.json, paint),
@@ -144,9 +145,9 @@ fn run(args: &Args) -> Result<Outcome, String> {
 }
 
 /// Writes to standard output. Where the reader has gone away, nobody misses anything.
-fn put(text: &str) -> Result<(), String> {
+fn put(bytes: &[u8]) -> Result<(), String> {
     let mut out = io::stdout().lock();
-    match out.write_all(text.as_bytes()).and_then(|()| out.flush()) {
+    match out.write_all(bytes).and_then(|()| out.flush()) {
         Err(error) if error.kind() != io::ErrorKind::BrokenPipe => {
             Err(input::wrong("standard output", error))
         }

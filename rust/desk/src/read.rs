@@ -141,6 +141,7 @@ fn json(
     records: Records,
     moves: u32,
     refused: Option<&Refused>,
+    printout: Option<&[u8]>,
 ) -> Json {
     let [place, length, terminal] = refused.map_or([records.text().len(), 0, 0], Refused::values);
     let mut fields = vec![
@@ -169,6 +170,7 @@ fn json(
         fields.push(("state", state.map_or(Json::Null, Json::number)));
         fields.push(("valid", Json::list(valid.iter().map(name))));
     }
+    fields.extend(printout.map(|printout| ("printout", Json::bytes(printout))));
     let forest = records.forest();
     let trees = (0..records.len()).filter_map(|index| forest.subtree(index));
     fields.push((
@@ -185,11 +187,13 @@ pub struct Reading<'a> {
     pub query: &'a [u8],
     pub room: usize,
     pub allowance: u32,
+    /// Whether the tree is wanted as a printout.
+    pub print: bool,
 }
 
 impl Reading<'_> {
-    /// Reads it. What comes back says whether it is accepted.
-    pub fn answer(&self, depth: usize, as_json: bool, paint: Paint) -> (bool, String) {
+    /// Reads it. What comes back says whether it is accepted, and printed where that is wanted.
+    pub fn answer(&self, depth: usize, as_json: bool, paint: Paint) -> (bool, Vec<u8>) {
         let Reading {
             pack, names, query, ..
         } = *self;
@@ -199,12 +203,17 @@ impl Reading<'_> {
             .map(|parsed| parsed.moves());
         let records = tree.records(query);
         let moves = answer.unwrap_or_else(|refused| refused.work().unwrap_or_default().moves);
-        let refused = answer.as_ref().err();
-        let words = match refused {
-            _ if as_json => format!("{}\n", json(pack, names, records, moves, refused)),
-            None => accepted(records, moves, names, depth, paint),
-            Some(refused) => refusal::of_query(pack, names, records, refused).words(query, paint),
+        let printed = answer.and_then(|_| self.print.then(|| records.print()).transpose());
+        let refused = printed.as_ref().err();
+        let printout = printed.as_ref().ok().and_then(Option::as_deref);
+        let words = match (refused, printout) {
+            _ if as_json => format!("{}\n", json(pack, names, records, moves, refused, printout)),
+            (None, Some(printout)) => return (true, [printout, b"\n"].concat()),
+            (None, None) => accepted(records, moves, names, depth, paint),
+            (Some(refused), _) => {
+                refusal::of_query(pack, names, records, refused).words(query, paint)
+            }
         };
-        (refused.is_none(), words)
+        (refused.is_none(), words.into_bytes())
     }
 }

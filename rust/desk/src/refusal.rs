@@ -221,6 +221,14 @@ pub fn of_query(pack: &Pack, names: &Names, records: Records, refused: &Refused)
             };
             told
         }
+        Refused::TooDeep => Explained {
+            code: refused.code(),
+            title: "the tree is too deep to print",
+            mark: None,
+            found: "Found more than 256 nodes on one way down.".to_string(),
+            allowed: "Allowed are 256.".to_string(),
+            hint: Some("Without `--print` it is drawn, as deep as `--depth` says.".to_string()),
+        },
         _ => Explained {
             code: refused.code(),
             title: "the query is too long",

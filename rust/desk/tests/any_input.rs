@@ -5,7 +5,7 @@ mod run;
 use std::fs;
 use std::path::Path;
 
-use run::{desk, desk_in, folder, packs};
+use run::{bytes_in, desk, desk_in, folder, packs};
 use second::cases::Case;
 use second::gen::mix::{Kinds, Mix};
 use second::shape;
@@ -35,6 +35,7 @@ fn generated(count: usize, seed: u64) -> Vec<(Vec<u8>, Vec<u8>)> {
 #[test]
 fn generated_packs_and_queries() {
     let folder = folder("generated");
+    let mut printouts = 0;
     for (number, (pack, query)) in generated(120, 16).into_iter().enumerate() {
         let name = format!("{number}.pack");
         fs::write(folder.join(&name), &pack).expect("the pack is written");
@@ -65,6 +66,18 @@ fn generated_packs_and_queries() {
         let draw = desk_in(&folder, &[&["draw", &name], &few[..]].concat(), &query);
         assert_eq!(draw.status, read.status);
         assert_eq!(draw.out.starts_with("<svg"), draw.status == 0);
+        let words = &tree[..4 * parsed.records as usize];
+        let mut printout = vec![0; 1_000_000];
+        let printed = second::print::print(&query, words, &mut printout);
+        let print = [&["read", &name, "--print"], &few[..]].concat();
+        let (out, _, status) = bytes_in(&folder, &print, &query);
+        if (parsed.code, printed.code) == (0, 0) {
+            let printout = &printout[..printed.number as usize];
+            assert_eq!((out, status), ([printout, b"\n"].concat(), 0));
+            printouts += 1;
+        } else {
+            assert_eq!(status, 1);
+        }
         let checked = second::check::check(&image);
         let check = desk_in(&folder, &["check", &name], b"");
         assert_eq!(
@@ -79,6 +92,7 @@ fn generated_packs_and_queries() {
         }
         assert_eq!(desk_in(&folder, &["show", &name, "--json"], b"").status, 0);
     }
+    assert!(printouts > 10, "{printouts}");
 }
 
 #[test]
@@ -146,6 +160,18 @@ fn queries_of_any_bytes() {
             .collect();
         desk(&["read", "packs/profile.pack"], &query);
     }
+}
+
+#[test]
+fn a_printout_has_the_bytes_as_they_are() {
+    let run = |words: &[&str]| bytes_in(&run::top(), words, b"\"\xff\"");
+    let (out, _, status) = run(&["read", "packs/json.pack", "--print"]);
+    assert_eq!((&out[..], status), (&b"(2 11:[\"\xff\"])\n"[..], 0));
+    let (out, _, status) = run(&["read", "packs/json.pack", "--print", "--json"]);
+    let out = String::from_utf8(out).expect("JSON is UTF-8");
+    assert_eq!(status, 0);
+    let bytes = "\"printout\":[40,50,32,49,49,58,91,34,255,34,93,41],";
+    assert!(out.contains(bytes), "{out}");
 }
 
 #[test]

@@ -100,6 +100,34 @@ fn accepted_queries() {
 }
 
 #[test]
+fn printouts() {
+    holds(
+        "print",
+        &["read", "--print", "packs/small.pack", "tax by day"],
+    );
+    holds(
+        "print-escaped",
+        &["read", "--print", "packs/json.pack", r#"["[\\]", -1]"#],
+    );
+    holds(
+        "print-json",
+        &["read", "--print", "packs/small.pack", "tax", "--json"],
+    );
+    holds(
+        "print-refused",
+        &["read", "--print", "packs/small.pack", "tax day"],
+    );
+    // A list is as many nodes deep as it has members, and three more.
+    let [most, deep] = [252, 253].map(|commas| format!("[{}1]", "1,".repeat(commas)));
+    let words = ["read", "--print", "packs/json.pack"];
+    assert_eq!(desk(&words, most.as_bytes()).status, 0);
+    holds_with("print-deep", &words, deep.as_bytes());
+    let json = desk(&[&words[..], &["--json"]].concat(), deep.as_bytes());
+    let code = r#"{"code":15,"place":0,"length":0,"terminal":0,"#;
+    assert!(json.out.starts_with(code) && json.status == 1);
+}
+
+#[test]
 fn refused_queries() {
     holds(
         "refused-group",
@@ -267,6 +295,10 @@ fn help_and_wrong_use() {
     );
     holds("wrong-many", &["read", "packs/small.pack", "tax", "by"]);
     holds("wrong-pair", &["check", "packs/small.pack", "--state", "1"]);
+    holds(
+        "wrong-print",
+        &["draw", "--print", "packs/small.pack", "tax"],
+    );
     holds("wrong-file", &["read", "packs/none.pack", "tax"]);
     holds("wrong-folder", &["read", "packs", "tax"]);
     holds("wrong-state", &["show", "packs/small.pack", "--state", "5"]);

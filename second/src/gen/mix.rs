@@ -6,6 +6,7 @@ use std::rc::Rc;
 use super::conditions;
 use super::damage::{self, TextBreak};
 use super::passing::{passing, Drops, Language, Scale};
+use super::printing;
 use super::query;
 use super::random;
 use super::rng::Rng;
@@ -14,8 +15,9 @@ use super::wide;
 use crate::cases::{Case, Image, Text, MOST_BYTES, MOST_TREE, MOST_WORDS};
 use crate::image::{Pack, PROD_SYMBOLS};
 use crate::marked::{image_of, image_with, DEEP_PACK, ENDLESS_PACK, NESTED_EMPTY, NESTED_PACK};
-use crate::numbers::{DONE, QUERY_LONG, RECORD_LIMIT, RECORD_WORDS, SHAPE, TEXT_LIMIT};
+use crate::numbers::{DONE, QUERY_LONG, RECORD_LIMIT, RECORD_WORDS, ROOM_SMALL, SHAPE, TEXT_LIMIT};
 use crate::parse::parse;
+use crate::print::print;
 use crate::scan::scan;
 use crate::sets::{self, Set};
 use crate::shape::{self, Rule};
@@ -31,6 +33,7 @@ pub struct Kinds {
     pub check: bool,
     /// Parse and leaf.
     pub parse: bool,
+    pub print: bool,
 }
 
 impl Kinds {
@@ -39,6 +42,7 @@ impl Kinds {
         text: false,
         check: false,
         parse: false,
+        print: false,
     };
 
     pub const ALL: Kinds = Kinds {
@@ -46,6 +50,7 @@ impl Kinds {
         text: true,
         check: true,
         parse: true,
+        print: true,
     };
 
     pub const SCAN: Kinds = Kinds {
@@ -68,6 +73,11 @@ impl Kinds {
         ..Kinds::NONE
     };
 
+    pub const PRINT: Kinds = Kinds {
+        print: true,
+        ..Kinds::NONE
+    };
+
     pub fn by_name(name: &str) -> Option<Kinds> {
         match name {
             "all" => Some(Kinds::ALL),
@@ -75,6 +85,7 @@ impl Kinds {
             "text" => Some(Kinds::TEXT),
             "check" => Some(Kinds::CHECK),
             "parse" => Some(Kinds::PARSE),
+            "print" => Some(Kinds::PRINT),
             _ => None,
         }
     }
@@ -88,6 +99,9 @@ struct Subject {
 
 /// How many moves a probing parse may take, so that no case takes long.
 const PROBE: u32 = 2_000_000;
+
+/// The longest printout that a comparison makes.
+const MOST_PRINTOUT: usize = 2_000_000;
 
 pub struct Mix {
     rng: Rng,
@@ -120,6 +134,14 @@ impl Mix {
         }
         if self.kinds.parse && self.bundles % 20 == 10 {
             return self.deep_bundle();
+        }
+        // A tree need not come from a parse; where nothing else is wanted, three of four are made without one.
+        let without_a_parse = match self.kinds {
+            Kinds::PRINT => self.bundles % 4 != 0,
+            kinds => kinds.print && self.bundles % 4 == 1,
+        };
+        if without_a_parse {
+            return self.print_bundle();
         }
         let subject = self.subject();
         self.cases_of(&subject)
@@ -196,7 +218,7 @@ impl Mix {
             self.writes(subject, &mut cases);
             self.reads(subject, &mut cases);
         }
-        if self.kinds.scan || self.kinds.parse {
+        if self.kinds.scan || self.kinds.parse || self.kinds.print {
             let texts = if good { self.rng.from_to(1, 3) } else { 1 };
             for _ in 0..texts {
                 let text = Rc::new(self.query(subject));
@@ -205,6 +227,9 @@ impl Mix {
                 }
                 if self.kinds.parse {
                     self.parses(subject, &text, &mut cases);
+                }
+                if self.kinds.print && good {
+                    self.printed_parses(subject, &text, &mut cases);
                 }
             }
             if self.kinds.scan {
@@ -528,6 +553,107 @@ impl Mix {
         }
     }
 
+    /// Printouts of what a parse leaves, be it a whole tree or some of its parts, and of damaged copies.
+    fn printed_parses(&mut self, subject: &Subject, text: &Text, cases: &mut Vec<Case>) {
+        let mut tree = vec![0; if self.small { 200 } else { MOST_TREE }];
+        let parsed = parse(&subject.image, text, &mut tree, PROBE);
+        tree.truncate(parsed.records as usize * RECORD_WORDS);
+        self.prints(text, tree.clone(), cases);
+        let copies = if self.small { 1 } else { 3 };
+        for _ in 0..copies {
+            let damaged = printing::damaged(&mut self.rng, &tree);
+            self.prints(text, damaged, cases);
+        }
+    }
+
+    /// Printouts of one tree, with ample, exact and too small rooms.
+    fn prints(&mut self, text: &Text, tree: Vec<u16>, cases: &mut Vec<Case>) {
+        let rng = &mut self.rng;
+        let longest = if self.small { 2_000 } else { MOST_PRINTOUT };
+        let probe = print(text, &tree, &mut []);
+        let rooms = match (probe.code, probe.number as usize) {
+            (ROOM_SMALL, size) if size <= longest => {
+                let mut rooms = vec![size + rng.below(40), size - 1];
+                if rng.percent(50) {
+                    rooms.extend([size, rng.below(size)]);
+                }
+                rooms
+            }
+            _ => vec![rng.below(60)],
+        };
+        let tree = Rc::new(tree);
+        cases.extend(rooms.into_iter().map(|room| Case::Print {
+            text: text.clone(),
+            tree: tree.clone(),
+            room: room as u32,
+        }));
+    }
+
+    /// Printouts of trees that come from no parse, over one text.
+    fn print_bundle(&mut self) -> Vec<Case> {
+        let mut cases = Vec::new();
+        let length = match self.rng.below(20) {
+            0 => 0,
+            1 if !self.small => self.rng.below(3_000),
+            _ => self.rng.from_to(1, 60),
+        };
+        let text = Rc::new(printing::text(&mut self.rng, length));
+        for _ in 0..if self.small { 2 } else { 4 } {
+            let rng = &mut self.rng;
+            let tree = match rng.below(10) {
+                0 => printing::tree(rng, length, 1),
+                // In a stored file deep ones are written down.
+                1 | 2 if !self.small => printing::deep(rng, length),
+                3 if !self.small => {
+                    let records = rng.from_to(1, 600);
+                    printing::tree(rng, length, records)
+                }
+                _ => {
+                    let records = rng.from_to(1, 12);
+                    printing::tree(rng, length, records)
+                }
+            };
+            let damaged = printing::damaged(rng, &tree);
+            self.prints(&text, tree, &mut cases);
+            self.prints(&text, damaged, &mut cases);
+        }
+        if self.rng.once_in(10) {
+            self.prints(&text, Vec::new(), &mut cases);
+        }
+        cases
+    }
+
+    /// Printouts of 65,535 records and about as many, of texts of 65,535 bytes and more, and, seldom, of a size of 2 to
+    /// the 32nd and more.
+    fn long_prints(&mut self, cases: &mut Vec<Case>) {
+        let rng = &mut self.rng;
+        let length = rng.from_to(TEXT_LIMIT - 1, TEXT_LIMIT + 40);
+        let text = Rc::new(printing::text(rng, length));
+        let leaf = |start, length| [1, start, length, 0];
+        let long = [leaf(0, 65_535), leaf(1, 65_535), leaf(65_535, 0)].concat();
+        let long = [long, vec![64, 7, 3, 0]].concat();
+        let damaged = printing::damaged(rng, &long);
+        let records = rng.from_to(RECORD_LIMIT - 1, RECORD_LIMIT + 1);
+        let many = match rng.below(3) {
+            0 => printing::tree(rng, length, records),
+            1 => printing::chain(rng, length, records - 1),
+            _ => {
+                let leaves = (1..records).flat_map(|_| leaf(7, 1)).collect::<Vec<u16>>();
+                [leaves, vec![64, 0, (records - 1) as u16, 0]].concat()
+            }
+        };
+        for tree in [long, damaged, many] {
+            self.prints(&text, tree, cases);
+        }
+        if self.bundles % 8_000 == 20 {
+            let text = Rc::new(vec![b'['; TEXT_LIMIT]);
+            let leaves = (0..33_000)
+                .flat_map(|_| leaf(0, 65_535))
+                .collect::<Vec<u16>>();
+            self.prints(&text, [leaves, vec![64, 7, 33_000, 0]].concat(), cases);
+        }
+    }
+
     /// The text of an image whose lines can be written, whatever its shape.
     fn writable(image: &[u16]) -> Option<Vec<u8>> {
         shape::front(image).ok()?;
@@ -632,6 +758,9 @@ impl Mix {
                 let room = self.rng.from_to(65_500, MOST_BYTES) as u32;
                 cases.push(Case::Write { image, room });
             }
+        }
+        if self.kinds.print {
+            self.long_prints(&mut cases);
         }
         let sizes = wide::greatest_sizes();
         let tables = random::tables(&mut self.rng, sizes);

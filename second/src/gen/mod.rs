@@ -1,6 +1,6 @@
 //! The generator: packs, pack texts and queries from a seed, from three sources. `passing` builds packs that pass,
 //! `random` images of good shape that are otherwise random, and `damage` breaks images, texts and queries; `conditions`
-//! makes a condition of the check fail. `mix` makes cases of them.
+//! makes a condition of the check fail. `printing` has trees to print. `mix` makes cases of all.
 
 pub mod conditions;
 pub mod damage;
@@ -9,6 +9,7 @@ pub mod lr;
 pub mod mix;
 pub mod passing;
 pub mod pattern;
+pub mod printing;
 pub mod query;
 pub mod random;
 pub mod rng;

@@ -32,8 +32,15 @@ pub fn desk(words: &[&str], input: &[u8]) -> Run {
     desk_in(&top(), words, input)
 }
 
-/// Runs desk in a folder, with something on standard input. That it ends by itself, and not by a panic, is part of every test.
+/// Runs desk in a folder, with something on standard input.
 pub fn desk_in(folder: &Path, words: &[&str], input: &[u8]) -> Run {
+    let (out, err, status) = bytes_in(folder, words, input);
+    let out = String::from_utf8(out).expect("what desk prints is UTF-8");
+    Run { out, err, status }
+}
+
+/// The same, where what it prints may be any bytes. That it ends by itself, and not by a panic, is part of every test.
+pub fn bytes_in(folder: &Path, words: &[&str], input: &[u8]) -> (Vec<u8>, String, i32) {
     let mut child = Command::new(env!("CARGO_BIN_EXE_desk"))
         .args(words)
         .current_dir(folder)
@@ -49,9 +56,8 @@ pub fn desk_in(folder: &Path, words: &[&str], input: &[u8]) -> Run {
     drop(lent);
     let done = child.wait_with_output().expect("desk ends");
     let status = done.status.code().expect("desk ends by itself");
-    let [out, err] = [done.stdout, done.stderr]
-        .map(|bytes| String::from_utf8(bytes).expect("what desk prints is UTF-8"));
+    let err = String::from_utf8(done.stderr).expect("what desk says is UTF-8");
     assert!(!err.contains("panicked"), "{words:?}: {err}");
     assert!((0..=2).contains(&status), "{words:?}: status {status}");
-    Run { out, err, status }
+    (done.stdout, err, status)
 }

@@ -1,8 +1,8 @@
 use borrow.Author.Needs.{needs}
 use Prim.Native.Nat.{_≤_, _-_, _*_}
 use lib.ListN.{length}
-use Rattle.readq.proofs.records.Statement.{statement}
-use Rattle.readq.proofs.records.Tie as tie
+use Rattle.lines.proofs.records.Statement.{statement}
+use Rattle.lines.proofs.records.Tie as tie
 
 abbrev Inv-loop : tie.InvT-loop
 Inv-loop tree n i₀ i = (i ≤ n) × (n * 4 ≤ length tree)

@@ -1,0 +1,3 @@
+pub mod Records
+pub mod Taken
+pub mod Unique
