@@ -787,6 +787,14 @@ static void show_aim(const struct row *row)
     printf("| %-44s | %10.3f | %10.3f | %10.3f | %10.3f | %8.2f |\n", row->what, proved, run, words, run + words, proved / (run + words));
 }
 
+/* The moves of a parse, which are the same on every machine. */
+static void show_moves(const struct row *row)
+{
+    uint64_t out[NUMBERS] = {0};
+    answer(&versions[0], &row->call, out);
+    printf("| %-44s | %6zu | %7zu | %5.2f |\n", row->what, row->size, (size_t)out[5], (double)out[5] / (double)row->size);
+}
+
 /* The worst packs without a scanner, by parse states and productions. */
 static int growth(void)
 {
@@ -917,5 +925,8 @@ int main(int words, char **word)
            "C's run", "words", "aim", "ratio");
     for (size_t i = FIRST_QUERY; i < FIRST_QUERY + QUERIES; i++)
         show_aim(&rows[i]);
+    printf("\n| %-44s | %6s | %7s | %5s |\n|---|---|---|---|\n", "moves", "bytes", "moves", "each");
+    for (size_t i = FIRST_QUERY - 1; i < FIRST_QUERY + QUERIES; i++)
+        show_moves(&rows[i]);
     return 0;
 }

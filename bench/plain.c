@@ -689,9 +689,9 @@ size_t plain_c_check(const uint16_t *img, size_t img_words, uint64_t *out, size_
         if (!k2(img, &p, q))
             return tell4(out, 5, 2, q, 0);
     for (size_t s = 0; s < p.states; s++) {
-        uint64_t valid = valid_set(img, &p, s);
+        uint64_t sought = valid_set(img, &p, s) | set_at(img, 9);
         for (size_t q = 0; q < p.scan_states; q++) {
-            uint64_t seen = set_at(img, p.scan + q * 12) & valid;
+            uint64_t seen = set_at(img, p.scan + q * 12) & sought;
             if ((seen & (seen - 1)) != 0 && group_of(img, &p, seen) == GOOD)
                 return tell4(out, 5, 3, s, q);
         }
@@ -734,18 +734,6 @@ static struct found scan_here(struct run *r, uint64_t valid)
     return one_scan(&r->scanner, r->text + r->place, r->bytes - r->place, valid);
 }
 
-static int skip_layout(struct run *r, uint64_t layout)
-{
-    for (;;) {
-        struct found found = scan_here(r, layout);
-        if (found.used_up)
-            return 13;
-        if (found.set == 0)
-            return GOES_ON;
-        r->place += found.length;
-    }
-}
-
 static size_t lowest(uint64_t set)
 {
     size_t t = 0;
@@ -784,12 +772,12 @@ static int reduce(struct run *r, size_t production)
     return write_and_push(r, height, node, code - 1);
 }
 
-/* The terminal and the length of the token that the state on top sees; GOES_ON, or a code. */
-static int token(struct run *r, size_t top, size_t *terminal, size_t *length)
+/* The terminal and the length of what a scan for a set matches, a token or layout; GOES_ON, or a code. */
+static int matched(struct run *r, uint64_t sought, size_t *terminal, size_t *length)
 {
     const uint16_t *img = r->scanner.img;
     const struct pack *p = &r->scanner.p;
-    struct found found = scan_here(r, valid_set(img, p, top) & ~UINT64_C(1));
+    struct found found = scan_here(r, sought);
     if (found.used_up)
         return 13;
     if (found.set == 0) {
@@ -816,16 +804,28 @@ static int token(struct run *r, size_t top, size_t *terminal, size_t *length)
     return GOES_ON;
 }
 
+/* The terminal and the length of what the state on top sees past layout, 0 and 0 at the end of the text; GOES_ON, or a code. */
+static int token(struct run *r, size_t top, uint64_t layout, size_t *terminal, size_t *length)
+{
+    uint64_t sought = (valid_set(r->scanner.img, &r->scanner.p, top) | layout) & ~UINT64_C(1);
+    while (r->place != r->bytes) {
+        int code = matched(r, sought, terminal, length);
+        if (code != GOES_ON || !has(layout, *terminal))
+            return code;
+        r->place += *length;
+    }
+    *terminal = *length = 0;
+    return GOES_ON;
+}
+
 static int step(struct run *r, uint64_t layout)
 {
     const uint16_t *img = r->scanner.img;
     const struct pack *p = &r->scanner.p;
-    size_t top = r->stack[r->height - 1], terminal = 0, length = 0;
-    if (r->place != r->bytes) {
-        int code = token(r, top, &terminal, &length);
-        if (code != GOES_ON)
-            return code;
-    }
+    size_t top = r->stack[r->height - 1], terminal, length;
+    int looked = token(r, top, layout, &terminal, &length);
+    if (looked != GOES_ON)
+        return looked;
     size_t code = img[p->act + top * p->terminals + terminal];
     if (code == 0)
         return 8;
@@ -835,10 +835,9 @@ static int step(struct run *r, uint64_t layout)
         return reduce(r, (code - 3) / 2);
     const uint16_t leaf[4] = {(uint16_t)terminal, (uint16_t)r->place, (uint16_t)length, (uint16_t)top};
     int shifted = write_and_push(r, r->height, leaf, (code - 2) / 2);
-    if (shifted != GOES_ON)
-        return shifted;
-    r->place += length;
-    return skip_layout(r, layout);
+    if (shifted == GOES_ON)
+        r->place += length;
+    return shifted;
 }
 
 static size_t tell6(uint64_t *out, uint64_t code, uint64_t place, uint64_t length, uint64_t terminal, uint64_t records, uint64_t moves)
@@ -869,7 +868,7 @@ static size_t run(const uint16_t *img, const uint8_t *text, size_t text_bytes, u
     r.stack[0] = 0;
     r.height = 1;
     uint64_t layout = set_at(img, 9);
-    int code = skip_layout(&r, layout);
+    int code = GOES_ON;
     while (code == GOES_ON)
         code = step(&r, layout);
     return tell6(out, (uint64_t)code, r.place, r.length, r.terminal, r.records, r.scanner.moves);

@@ -645,9 +645,9 @@ fn check(img: &[u16]) -> [u64; 4] {
         return [5, 2, q as u64, 0];
     }
     for s in 0..p.states {
-        let valid = valid_set(img, &p, s);
+        let sought = valid_set(img, &p, s) | set_at(img, 9);
         for q in 0..p.scan_states {
-            let seen = set_at(img, p.scan + q * 12) & valid;
+            let seen = set_at(img, p.scan + q * 12) & sought;
             if seen.count_ones() > 1 && chosen_of(img, &p, seen).is_none() {
                 return [5, 3, s as u64, q as u64];
             }
@@ -694,17 +694,22 @@ impl Run<'_, '_> {
         self.scanner.scan(&self.text[self.place..], valid)
     }
 
-    fn skip_layout(&mut self) -> Result<(), End> {
-        while let Some((_, length)) = self.scan(self.layout)? {
+    /// The terminal and the length of what the state on top sees past layout; 0 and 0 at the end of the text.
+    fn token(&mut self, top: usize) -> Result<(usize, usize), End> {
+        let sought = (valid_set(self.scanner.img, &self.scanner.p, top) | self.layout) & !1;
+        while self.place < self.text.len() {
+            let (terminal, length) = self.matched(sought)?;
+            if !has(self.layout, terminal) {
+                return Ok((terminal, length));
+            }
             self.place += length;
         }
-        Ok(())
+        Ok((0, 0))
     }
 
-    /// The terminal and the length of the token that the state on top sees.
-    fn token(&mut self, top: usize) -> Result<(usize, usize), End> {
-        let valid = valid_set(self.scanner.img, &self.scanner.p, top) & !1;
-        let Some((set, length)) = self.scan(valid)? else {
+    /// The terminal and the length of what a scan for a set matches, a token or layout.
+    fn matched(&mut self, sought: u64) -> Result<(usize, usize), End> {
+        let Some((set, length)) = self.scan(sought)? else {
             let others = below(self.scanner.p.terminals) & !1 & !self.layout;
             return Err(match self.scan(others)? {
                 Some((set, length)) => End(8, length, set.trailing_zeros() as usize),
@@ -753,7 +758,7 @@ impl Run<'_, '_> {
 
     fn step(&mut self) -> Result<(), End> {
         let top = usize::from(self.stack[self.height - 1]);
-        let (terminal, length) = if self.place == self.text.len() { (0, 0) } else { self.token(top)? };
+        let (terminal, length) = self.token(top)?;
         let p = &self.scanner.p;
         match usize::from(self.scanner.img[p.act + top * p.terminals + terminal]) {
             0 => Err(End(8, 0, 0)),
@@ -763,17 +768,15 @@ impl Run<'_, '_> {
             code => {
                 self.write_and_push(self.height, [terminal, self.place, length, top], (code - 2) / 2)?;
                 self.place += length;
-                self.skip_layout()
+                Ok(())
             }
         }
     }
 
     fn run(&mut self) -> End {
-        let mut goes_on = self.skip_layout();
         loop {
-            match goes_on {
-                Ok(()) => goes_on = self.step(),
-                Err(end) => return end,
+            if let Err(end) = self.step() {
+                return end;
             }
         }
     }

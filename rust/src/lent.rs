@@ -12,7 +12,7 @@
 //! let words = lent::read(&text, &mut image)?;
 //! let mut tree = [0; 4 * 10];
 //! let work = lent::parse(&image[..words], b"tax by day", &mut tree, u32::MAX)?;
-//! assert_eq!((words, work.records, work.moves), (189, 4, 13));
+//! assert_eq!((words, work.records, work.moves), (189, 4, 10));
 //! assert_eq!(lent::leaf(b"tax by day", [tree[4], tree[5], tree[6], tree[7]]), b"by");
 //! let mut printed = [0; 100];
 //! let bytes = lent::print(b"tax by day", &tree[..4 * work.records], &mut printed)?;

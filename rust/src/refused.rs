@@ -122,7 +122,7 @@ pub enum Failure {
         /// The scan state.
         scan_state: usize,
     },
-    /// Several terminals that are valid and accepted together are a group.
+    /// Several terminals, each valid or layout, that are accepted together are a group.
     K3 {
         /// The parse state.
         state: usize,

@@ -88,13 +88,13 @@ fn k2(pack: &Pack) -> Option<usize> {
     })
 }
 
-/// K3: acc(q) ∩ V(s) has at most one terminal or equals a group.
+/// K3: acc(q) ∩ (V(s) ∪ layout) has at most one terminal or equals a group.
 fn k3(pack: &Pack) -> Option<(usize, usize)> {
     let accs: Vec<_> = (0..pack.sizes.scan_states).map(|q| pack.acc(q)).collect();
     for s in 0..pack.sizes.states {
-        let valid = pack.valid_set(s);
+        let sought = pack.valid_set(s) | pack.layout();
         for (q, acc) in accs.iter().enumerate() {
-            let set = acc & valid;
+            let set = acc & sought;
             if sets::count(set) > 1 && pack.chosen_of(set).is_none() {
                 return Some((s, q));
             }

@@ -8,11 +8,12 @@ use crate::gen::damage::TextBreak;
 use crate::gen::mix::{Kinds, Mix};
 use crate::image::{Action, Pack, FIRST_NONTERMINAL, SIZE_NAMES};
 use crate::leaf;
+use crate::looks::{Look, Looks};
 use crate::numbers::*;
-use crate::parse::parse;
+use crate::parse::{parse, Parsed};
 use crate::print::{print, Printed};
 use crate::scan::{scan, Meter, Scanner};
-use crate::sets;
+use crate::sets::{self, Set};
 use crate::shape::{self, Rule};
 use crate::text::{read, words_of, write, Line};
 
@@ -48,14 +49,38 @@ const UNEXPECTED_WAYS: [&str; 3] = [
     "parse code 8: at a token, several without a group",
 ];
 
+/// What becomes of layout where a state looks for its terminals and layout together.
+const LOOKED: [&str; 15] = [
+    "parse: layout skipped",
+    "parse: layout skipped up to the end of the text",
+    "parse: layout skipped after a reduction",
+    "parse: layout skipped, longer than a token that begins alike",
+    "parse: layout skipped, shorter than a token that another state allows",
+    "parse: layout skipped, chosen from a group with a token",
+    "parse: layout skipped, chosen from a group of layout alone",
+    "parse: a token, longer than layout that begins alike",
+    "parse: a token, chosen from a group with layout",
+    "parse: no match, a token forgotten where layout is rejected",
+    "parse code 8: of a terminal that is valid",
+    "parse code 9: tokens alone",
+    "parse code 9: a token and layout",
+    "parse code 9: layout alone",
+    "parse code 13: past skipped layout",
+];
+
 /// Where among its places a condition fails: a state is the first, neither, or the last.
 const SPOTS: [&str; 3] = ["at the first place", "in the middle", "at the last place"];
 
 /// What packs have to be checked beside the conditions that fail.
-const CHECKED: [&str; 3] = [
+const CHECKED: [&str; 8] = [
     "check code 0: a state that nothing leads to",
     "check code 5: two conditions fail",
     "check code 5: K5 fails on one way back and holds on another",
+    "check code 0: a token and layout, by a group",
+    "check code 0: layout alone, by a group",
+    "check code 5: K3 fails for tokens alone",
+    "check code 5: K3 fails for a token and layout",
+    "check code 5: K3 fails for layout alone",
 ];
 
 /// What a parse has to meet beside its codes.
@@ -125,6 +150,7 @@ pub fn wanted() -> Vec<String> {
     names.extend([9, 10, 11, 12, 13].map(|code| format!("parse code {code}")));
     names.extend(REFUSED_ACTIONS.map(str::to_string));
     names.extend(MET.map(str::to_string));
+    names.extend(LOOKED.map(str::to_string));
     names.extend(
         ["a part", "an empty part inside", "the empty front part"]
             .map(|part| format!("leaf: {part}")),
@@ -221,11 +247,12 @@ impl Hits {
                     return;
                 }
                 let records = &lent[..parsed.records as usize * RECORD_WORDS];
-                let stacks = Stacks::of(image, records);
+                let place = parsed.place as usize;
+                let looks = Looks::of(Pack::new(image), text, records, place);
                 if (STUCK..=STACK_FULL).contains(&parsed.code) {
-                    let rest = &text[parsed.place as usize..];
-                    self.hit(refused_action(image, rest, &stacks.last, parsed.code));
+                    self.hit(refused_action(image, text, &looks, parsed.code));
                 }
+                self.count_looks(image, text, &looks, parsed);
                 let again = |records: usize, moves: u32| {
                     let mut lent = vec![0; *tree as usize + records * RECORD_WORDS];
                     parse(image, text, &mut lent, allowance.saturating_add(moves)).code
@@ -235,8 +262,8 @@ impl Hits {
                     text.is_empty(),
                     text.len() == 1,
                     text.len() == TEXT_LIMIT,
-                    stacks.highest == STACK_LIMIT - 1,
-                    stacks.highest == STACK_LIMIT,
+                    looks.highest == STACK_LIMIT - 1,
+                    looks.highest == STACK_LIMIT,
                     parsed.code == DONE && room == parsed.records as usize,
                     parsed.code == DONE && *allowance == parsed.moves,
                     parsed.code == TREE_FULL && again(1, 0) == DONE,
@@ -310,12 +337,72 @@ impl Hits {
         }
     }
 
+    /// What the looks of a parse met, each name at most once for a parse.
+    fn count_looks(&mut self, image: &[u16], text: &[u8], looks: &Looks, parsed: Parsed) {
+        let pack = Pack::new(image);
+        let layout = pack.layout();
+        let mut met = [false; LOOKED.len()];
+        for look in &looks.looks {
+            let &Look { state, place, .. } = look;
+            let valid = looks.sought(state) & !layout;
+            let length_of = |set: Set| looks.scan(text, place, set).map_or(0, |m| m.length);
+            let (Some(found), Some(t)) = (look.found, look.terminal) else {
+                met[9] |= look.found.is_none() && length_of(valid) > 0;
+                continue;
+            };
+            let several = sets::count(found.set) > 1;
+            if !sets::has(layout, t) {
+                let shorter = length_of(layout);
+                met[7] |= shorter > 0 && shorter < found.length;
+                met[8] |= several && found.set & layout != sets::EMPTY;
+            } else if place < looks.place {
+                let shorter = length_of(valid);
+                let all = sets::below(pack.sizes.terminals) & !sets::single(0) & !layout;
+                met[0] = true;
+                met[1] |= place + found.length == text.len();
+                met[2] |= look.reduced;
+                met[3] |= shorter > 0 && shorter < found.length;
+                met[4] |= length_of(all) > found.length;
+                met[5] |= several && sides(found.set, layout) == 1;
+                met[6] |= several && sides(found.set, layout) == 2;
+            }
+        }
+        let valid = sets::has(pack.valid_set(looks.top()), parsed.terminal as usize);
+        met[10] = parsed.code == UNEXPECTED && parsed.terminal > 0 && valid;
+        if let (SEVERAL, Some(found)) = (parsed.code, looks.looks.last().and_then(|l| l.found)) {
+            met[11 + sides(found.set, layout)] = true;
+        }
+        let skipped = looks
+            .looks
+            .iter()
+            .any(|l| l.place < looks.place && l.terminal.is_some_and(|t| sets::has(layout, t)));
+        met[14] = parsed.code == ALLOWANCE && skipped;
+        for (name, _) in LOOKED.into_iter().zip(met).filter(|(_, met)| *met) {
+            self.hit(name);
+        }
+    }
+
     fn count_conditions(&mut self, pack: &Pack) {
         let edges = Edges::new(pack);
         let failing: Vec<Failing> = check::conditions(pack, &edges).collect();
         let Some(&Failing { condition, places }) = failing.first() else {
             if (1..pack.sizes.states).any(|s| edges.into[s].is_empty()) {
                 self.hit(CHECKED[0]);
+            }
+            let mut grouped = [false; 3];
+            for s in 0..pack.sizes.states {
+                for q in 0..pack.sizes.scan_states {
+                    let set = pack.acc(q) & (pack.valid_set(s) | pack.layout());
+                    grouped[sides(set, pack.layout())] |= sets::count(set) > 1;
+                }
+            }
+            for (name, _) in CHECKED[2..5]
+                .iter()
+                .zip(grouped)
+                .skip(1)
+                .filter(|(_, is)| *is)
+            {
+                self.hit(*name);
             }
             return;
         };
@@ -336,6 +423,10 @@ impl Hits {
         }
         if condition == 5 && some_way_back(pack, &edges, places) {
             self.hit(CHECKED[2]);
+        }
+        if condition == 3 {
+            let sought = pack.valid_set(places[0]) | pack.layout();
+            self.hit(CHECKED[5 + sides(pack.acc(places[1]) & sought, pack.layout())]);
         }
     }
 }
@@ -411,56 +502,29 @@ impl Walk {
     }
 }
 
-/// The stacks of a parse, built again from its records: the last one, and how high the highest was.
-struct Stacks {
-    last: Vec<usize>,
-    highest: usize,
-}
-
-impl Stacks {
-    fn of(image: &[u16], records: &[u16]) -> Stacks {
-        let pack = Pack::new(image);
-        let (mut last, mut highest) = (vec![0], 1);
-        for record in records.chunks_exact(RECORD_WORDS) {
-            let [first, _, len, state] =
-                [record[0], record[1], record[2], record[3]].map(usize::from);
-            let next = if first < FIRST_NONTERMINAL {
-                match pack.action(state, first) {
-                    Action::Shift(to) => Some(to),
-                    _ => None,
-                }
-            } else {
-                last.truncate(last.len() - len);
-                pack.goto(state, first - FIRST_NONTERMINAL)
-            };
-            last.extend(next);
-            highest = highest.max(last.len());
-        }
-        Stacks { last, highest }
-    }
-}
-
 /// Names the action that ended a parse with code 10, 11 or 12.
-fn refused_action(image: &[u16], rest: &[u8], stack: &[usize], code: u32) -> String {
+fn refused_action(image: &[u16], text: &[u8], looks: &Looks, code: u32) -> String {
     let pack = Pack::new(image);
-    let top = stack[stack.len() - 1];
-    let valid = pack.valid_set(top) & !sets::single(0);
-    let terminal = if rest.is_empty() {
-        0
-    } else {
-        let found = Scanner::new(pack).scan(rest, valid, &mut Meter::new(u32::MAX));
-        let set = found.ok().flatten().map_or(sets::EMPTY, |found| found.set);
-        pack.chosen_of(set).or(sets::lowest(set)).unwrap_or(0)
-    };
-    let what = match (code, pack.action(top, terminal)) {
+    let last = looks.looks.last().filter(|_| looks.place < text.len());
+    let terminal = last.and_then(|look| look.terminal).unwrap_or(0);
+    let what = match (code, pack.action(looks.top(), terminal)) {
         (STUCK, Action::Accept) => "accept, not two states",
-        (STUCK, Action::Reduce(p)) if stack.len() < pack.len(p) + 1 => "too few states",
+        (STUCK, Action::Reduce(p)) if looks.stack.len() < pack.len(p) + 1 => "too few states",
         (STUCK, Action::Reduce(_)) => "no goto",
         (_, Action::Shift(_)) => "shift",
         (_, Action::Reduce(_)) => "reduce",
         _ => "no such action",
     };
     format!("parse code {code}: {what}")
+}
+
+/// Is a set of several terminals one of tokens alone (0), of both (1), or of layout alone (2)?
+fn sides(set: Set, layout: Set) -> usize {
+    match (set & !layout, set & layout) {
+        (_, sets::EMPTY) => 0,
+        (sets::EMPTY, _) => 2,
+        _ => 1,
+    }
 }
 
 /// Counts the hits of a case file. The ways to break a text are not seen in it, and what is too large for one is not

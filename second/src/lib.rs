@@ -19,6 +19,7 @@ pub mod compare;
 pub mod engine;
 pub mod gen;
 pub mod hits;
+pub mod looks;
 pub mod marked;
 pub mod promise;
 pub mod store;

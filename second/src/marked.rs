@@ -1,5 +1,6 @@
-//! The packs and runs that are written down: document 01's small pack with its twelve marked cases, and the two
-//! examples of reject sets in source document 000.
+//! The packs and runs that are written down: document 01's small pack with its twelve marked cases, whose moves request
+//! No. 2 changed and are counted by hand, the packs of that request, and the two examples of reject sets in source
+//! document 000.
 
 use crate::text::words_of;
 
@@ -257,6 +258,153 @@ scan=0000000000000000,0000000000000000,0000000000000002
 scan=0000000000000002,0000000000000000,0000000000000002
 ";
 
+/// Request No. 2: terminal 1 is a name, `a+`; 2 the operator `//=`; 3 blanks and 4 the comment `//a*` are layout. S is a
+/// name, or name `//=` name. Nothing asks for the group. It passes.
+pub const OPERATOR_PACK: &str = "\
+pack=1
+size=5,1,2,5,7,5,4,1
+layout=0000000000000018
+dom=0000000000000000
+dom=0000000000000000
+dom=0000000000000000
+dom=0000000000000000
+dom=0000000000000000
+prod=0,1,1
+prod=0,3,1,2,1
+act=0,4,0,0,0
+act=3,0,6,0,0
+act=0,8,0,0,0
+act=5,0,0,0,0
+act=1,0,0,0,0
+goto=5
+goto=0
+goto=0
+goto=0
+goto=0
+class=32,32,4
+class=47,47,2
+class=61,61,3
+class=97,97,1
+move=0,2,3,0,6
+move=0,2,0,0,0
+move=0,0,4,0,0
+move=0,7,0,5,0
+move=0,0,0,0,0
+move=0,0,0,0,6
+move=0,7,0,0,0
+scan=0000000000000000,0000000000000000,000000000000001e
+scan=0000000000000002,0000000000000000,0000000000000002
+scan=0000000000000000,0000000000000000,0000000000000014
+scan=0000000000000010,0000000000000000,0000000000000014
+scan=0000000000000004,0000000000000000,0000000000000004
+scan=0000000000000008,0000000000000000,0000000000000008
+scan=0000000000000010,0000000000000000,0000000000000010
+group=0000000000000014,2
+";
+
+type Replaced = [(&'static str, usize, &'static str)];
+
+/// What makes of it: `//` is the operator too. The group chooses the operator, or the comment, or there is none.
+pub const OPERATOR_OR_COMMENT: [&Replaced; 3] = [
+    &[EITHER],
+    &[EITHER, ("group=", 0, "group=0000000000000014,4")],
+    &[EITHER, ("group=", 0, "group=0000000000000016,2")],
+];
+
+const EITHER: (&str, usize, &str) = (
+    "scan=",
+    3,
+    "scan=0000000000000014,0000000000000000,0000000000000014",
+);
+
+/// What makes of it: blanks are comments too. The group chooses one of the two, or there is none.
+pub const BLANK_OR_COMMENT: [&Replaced; 3] = [
+    &[BOTH, ("group=", 0, "group=0000000000000018,3")],
+    &[BOTH, ("group=", 0, "group=0000000000000018,4")],
+    &[BOTH],
+];
+
+const BOTH: (&str, usize, &str) = (
+    "scan=",
+    5,
+    "scan=0000000000000018,0000000000000000,0000000000000018",
+);
+
+/// What makes of it: the comment goes on with `=` too, as one that runs to the end of its line does.
+pub const COMMENT_TO_THE_END: &Replaced = &[
+    ("move=", 4, "move=0,7,0,7,0"),
+    ("move=", 6, "move=0,7,0,7,0"),
+    (
+        "scan=",
+        4,
+        "scan=0000000000000014,0000000000000000,0000000000000014",
+    ),
+];
+
+/// Terminal 1 is a name, `[a=]+`, 2 is `//=`, 3 is `//` and is layout. S is A and a name, A is a name. The state behind the
+/// first name reduces on `//=` too, as a table that merges look-ahead may; the one behind A does not know it, and sees
+/// layout and a name there. It passes.
+pub const REDUCED_PACK: &str = "\
+pack=1
+size=4,2,2,5,5,4,3,0
+layout=0000000000000008
+dom=0000000000000000
+dom=0000000000000000
+dom=0000000000000000
+dom=0000000000000000
+prod=0,2,65,1
+prod=1,1,1
+act=0,4,0,0
+act=0,5,5,0
+act=0,8,0,0
+act=3,0,0,0
+act=1,0,0,0
+goto=5,3
+goto=0,0
+goto=0,0
+goto=0,0
+goto=0,0
+class=47,47,2
+class=61,61,3
+class=97,97,1
+move=0,2,3,2
+move=0,2,0,2
+move=0,0,4,0
+move=0,0,0,5
+move=0,0,0,0
+scan=0000000000000000,0000000000000000,000000000000000e
+scan=0000000000000002,0000000000000000,0000000000000002
+scan=0000000000000000,0000000000000000,000000000000000c
+scan=0000000000000008,0000000000000000,000000000000000c
+scan=0000000000000004,0000000000000000,0000000000000004
+";
+
+/// Terminal 1 is `a`; 2 and 3 are both `ab`, outrank each other, and are layout. S is `a`. It passes.
+pub const CIRCLE_PACK: &str = "\
+pack=1
+size=4,1,1,3,3,3,2,0
+layout=000000000000000c
+dom=0000000000000000
+dom=0000000000000000
+dom=0000000000000008
+dom=0000000000000004
+prod=0,1,1
+act=0,4,0,0
+act=3,0,0,0
+act=1,0,0,0
+goto=3
+goto=0
+goto=0
+class=97,97,1
+class=98,98,2
+move=0,2,0
+move=0,0,3
+move=0,0,0
+scan=0000000000000000,0000000000000000,000000000000000e
+scan=0000000000000002,0000000000000000,000000000000000e
+scan=0000000000000000,000000000000000c,000000000000000c
+";
+
 /// The image of one of the texts above, with some of its lines replaced.
 pub fn image_with(text: &str, replaced: &[(&str, usize, &str)]) -> Vec<u16> {
     let mut lines: Vec<&str> = text.lines().collect();
@@ -322,25 +470,25 @@ pub fn marked_parses() -> Vec<Marked> {
         answer,
     };
     vec![
-        case(1, small(), "tax", AMPLE, ALL, [0, 3, 0, 0, 2, 4]),
-        case(2, small(), "bye", AMPLE, ALL, [0, 3, 0, 0, 2, 4]),
-        case(3, small(), "by", AMPLE, ALL, [8, 0, 2, 1, 0, 5]),
+        case(1, small(), "tax", AMPLE, ALL, [0, 3, 0, 0, 2, 3]),
+        case(2, small(), "bye", AMPLE, ALL, [0, 3, 0, 0, 2, 3]),
+        case(3, small(), "by", AMPLE, ALL, [8, 0, 2, 1, 0, 4]),
         case(4, small(), "", AMPLE, ALL, [8, 0, 0, 0, 0, 0]),
         case(5, small(), "7", AMPLE, ALL, [7, 0, 0, 0, 0, 0]),
-        case(6, small(), "tax day", AMPLE, ALL, [8, 4, 3, 2, 1, 10]),
-        case(7, small(), "tax by", AMPLE, ALL, [8, 6, 0, 0, 2, 8]),
+        case(6, small(), "tax day", AMPLE, ALL, [8, 4, 3, 2, 1, 8]),
+        case(7, small(), "tax by", AMPLE, ALL, [8, 6, 0, 0, 2, 6]),
         case(8, small(), " ", AMPLE, ALL, [8, 1, 0, 0, 0, 1]),
-        case(9, small(), "tax", AMPLE, 3, [13, 0, 0, 0, 0, 3]),
-        case(9, small(), "tax", AMPLE, 4, [0, 3, 0, 0, 2, 4]),
-        case(10, small(), "tax", 1, ALL, [11, 3, 0, 0, 1, 4]),
-        case(11, without_goto(), "tax", AMPLE, ALL, [10, 3, 0, 0, 1, 4]),
+        case(9, small(), "tax", AMPLE, 2, [13, 0, 0, 0, 0, 2]),
+        case(9, small(), "tax", AMPLE, 3, [0, 3, 0, 0, 2, 3]),
+        case(10, small(), "tax", 1, ALL, [11, 3, 0, 0, 1, 3]),
+        case(11, without_goto(), "tax", AMPLE, ALL, [10, 3, 0, 0, 1, 3]),
         case(
             12,
             with_two_terminals(),
             "tax by by",
             AMPLE,
             ALL,
-            [9, 7, 2, 0, 2, 12],
+            [9, 7, 2, 0, 2, 9],
         ),
     ]
 }
@@ -358,6 +506,6 @@ pub fn marked_checks() -> Vec<(u32, Vec<u16>, [u32; 4])> {
 /// The records of `tax by day` in the small pack.
 pub const TAX_BY_DAY: (&str, [u32; 6], [[u16; 4]; 4]) = (
     "tax by day",
-    [0, 10, 0, 0, 4, 13],
+    [0, 10, 0, 0, 4, 10],
     [[2, 0, 3, 0], [1, 4, 2, 1], [2, 7, 3, 2], [64, 1, 3, 0]],
 );

@@ -1,4 +1,4 @@
-//! The parse: layout, step, shift, reduce, accept, and the records.
+//! The parse: the next terminal past layout, step, shift, reduce, accept, and the records.
 
 use crate::image::{Action, Pack, FIRST_NONTERMINAL};
 use crate::numbers::{
@@ -90,13 +90,10 @@ impl<'i, 'l> Run<'i, 'l> {
     }
 
     fn run(mut self) -> Parsed {
-        let end = match self.skip_layout() {
-            Err(end) => end,
-            Ok(()) => loop {
-                if let Err(end) = self.step() {
-                    break end;
-                }
-            },
+        let end = loop {
+            if let Err(end) = self.step() {
+                break end;
+            }
         };
         Parsed {
             code: end.code,
@@ -123,37 +120,36 @@ impl<'i, 'l> Run<'i, 'l> {
             .map_err(|UsedUp| End::at(ALLOWANCE, self.place))
     }
 
-    fn skip_layout(&mut self) -> Result<(), End> {
-        let layout = self.pack.layout();
-        while let Some(found) = self.scan(layout)? {
-            self.place += found.length;
-        }
-        Ok(())
-    }
-
     /// Finds the terminal and does its action.
     fn step(&mut self) -> Result<(), End> {
-        let (terminal, length) = if self.place == self.text.len() {
-            (0, 0)
-        } else {
-            self.token()?
-        };
+        let (terminal, length) = self.next_terminal()?;
         match self.pack.action(self.top(), terminal) {
             // Only the end of the text comes here: a token's terminal is in the valid set.
             Action::Error => Err(self.here(UNEXPECTED)),
             Action::Accept => Err(self.accept()),
-            Action::Shift(state) => {
-                self.shift(terminal, length, state)?;
-                self.skip_layout()
-            }
+            Action::Shift(state) => self.shift(terminal, length, state),
             Action::Reduce(production) => self.reduce(production),
         }
     }
 
-    /// The terminal and the length of the token that the state on top sees.
-    fn token(&mut self) -> Result<(usize, usize), End> {
-        let valid = self.pack.valid_set(self.top()) & !sets::single(0);
-        let Some(found) = self.scan(valid)? else {
+    /// The terminal that the state on top sees next, and its length: layout that wins a scan is skipped, and the scan
+    /// made again by the same state. At the end of the text nothing is scanned.
+    fn next_terminal(&mut self) -> Result<(usize, usize), End> {
+        let layout = self.pack.layout();
+        let sought = (self.pack.valid_set(self.top()) | layout) & !sets::single(0);
+        while self.place < self.text.len() {
+            let (terminal, length) = self.matched(sought)?;
+            if !sets::has(layout, terminal) {
+                return Ok((terminal, length));
+            }
+            self.place += length;
+        }
+        Ok((0, 0))
+    }
+
+    /// The one terminal that a scan with the set comes to, a token's or layout, and its length.
+    fn matched(&mut self, sought: Set) -> Result<(usize, usize), End> {
+        let Some(found) = self.scan(sought)? else {
             return Err(self.no_token()?);
         };
         let terminal = if sets::count(found.set) == 1 {

@@ -1,12 +1,13 @@
 //! Demand 3, as far as a program can test it: for a pack that passes, no parse ends with code 9 or 10; the records of
 //! an accepted text are one derivation, its leaves and skipped layout cover the text once and in order, and each leaf
-//! is the longest one by the definition. And the tree of an accepted text prints, if it is not too deep. Nothing here
-//! uses the scan or the parse but to get the answer that is tested.
+//! and each piece of layout is the longest one by the definition, for the terminals of the state on top and layout
+//! together. And the tree of an accepted text prints, if it is not too deep. Nothing here uses the scan or the parse but
+//! to get the answer that is tested.
 
 use crate::check::check;
 use crate::gen::mix::Promised;
 use crate::image::{Action, Pack, FIRST_NONTERMINAL};
-use crate::numbers::{DONE, RECORD_WORDS, ROOM_SMALL, SEVERAL, STUCK, TOO_DEEP};
+use crate::numbers::{ALLOWANCE, DONE, RECORD_WORDS, ROOM_SMALL, SEVERAL, STUCK, TOO_DEEP};
 use crate::parse::parse;
 use crate::print::print;
 use crate::sets::{self, Set};
@@ -18,6 +19,12 @@ pub struct Counts {
     pub parses: usize,
     pub leaves: usize,
     pub by_group: usize,
+    /// Leaves that are longer than layout which begins alike.
+    pub over_layout: usize,
+    /// Pieces of layout, those that a group chose, and those skipped after a reduction.
+    pub pieces: usize,
+    pub pieces_by_group: usize,
+    pub pieces_after_node: usize,
     pub too_deep: usize,
     pub codes: [usize; 14],
 }
@@ -43,13 +50,19 @@ pub fn run(parses: usize, seed: u64) -> Result<Counts, String> {
                 .take(parsed.records as usize)
                 .map(|words| [words[0], words[1], words[2], words[3]])
                 .collect();
+            let place = parsed.place as usize;
             let kept = match parsed.code {
                 SEVERAL | STUCK => Err(format!("code {}", parsed.code)),
-                DONE => accepted(&pack, &query.text, &records)
+                DONE => accepted(&pack, &query.text, &records, &mut counts)
                     .and_then(|()| prints(&query.text, &records, &mut counts)),
-                _ => Ok(()),
-            }
-            .and_then(|()| leaves(&pack, &query.text, &records, &mut counts));
+                code => cover(&pack, &query.text, &records, &mut counts).and_then(|end| {
+                    // A refusal stands past the layout of the state on top; of the allowance, perhaps before it.
+                    match place == end || code == ALLOWANCE && place < end {
+                        true => Ok(()),
+                        false => Err(format!("it should stand at {end}")),
+                    }
+                }),
+            };
             if let Err(wrong) = kept {
                 return Err(format!(
                     "{wrong}\nparse {} of this run: {parsed:?}\nquery: \"{}\"\nrecords: {records:?}\nimage: {image:?}",
@@ -63,9 +76,18 @@ pub fn run(parses: usize, seed: u64) -> Result<Counts, String> {
 }
 
 /// What an accepted parse promises: one derivation, and the whole text covered.
-pub fn accepted(pack: &Pack, text: &[u8], records: &[[u16; RECORD_WORDS]]) -> Result<(), String> {
+pub fn accepted(
+    pack: &Pack,
+    text: &[u8],
+    records: &[[u16; RECORD_WORDS]],
+    counts: &mut Counts,
+) -> Result<(), String> {
     derivation(pack, records)?;
-    cover(pack, text, records)
+    let end = cover(pack, text, records, counts)?;
+    match end == text.len() {
+        true => Ok(()),
+        false => Err(format!("the text is covered up to {end} only")),
+    }
 }
 
 /// An accepted tree is whole: it wants room, and is refused otherwise only where it is too deep.
@@ -109,39 +131,6 @@ fn derivation(pack: &Pack, records: &[[u16; RECORD_WORDS]]) -> Result<(), String
     }
 }
 
-/// Leaves and skipped layout cover the text once and in order.
-fn cover(pack: &Pack, text: &[u8], records: &[[u16; RECORD_WORDS]]) -> Result<(), String> {
-    let mut place = after_layout(pack, text, 0);
-    for &[symbol, start, length, _] in records {
-        if usize::from(symbol) >= FIRST_NONTERMINAL {
-            continue;
-        }
-        if usize::from(start) != place {
-            return Err(format!("the leaf at {start} should be at {place}"));
-        }
-        let end = place + usize::from(length);
-        if end > text.len() {
-            return Err(format!("the leaf at {start} ends past the text"));
-        }
-        place = after_layout(pack, text, end);
-    }
-    if place == text.len() {
-        Ok(())
-    } else {
-        Err(format!("the text is covered up to {place} only"))
-    }
-}
-
-fn after_layout(pack: &Pack, text: &[u8], mut place: usize) -> usize {
-    while let Some((length, q)) = last_seen(pack, &text[place..], pack.layout()) {
-        if pack.acc(q) & pack.layout() == sets::EMPTY {
-            break;
-        }
-        place += length;
-    }
-    place
-}
-
 /// The last length at which, reading on from the front, some terminal of the set matches or is rejected, and the scan
 /// state there. It reads all of the text for which there are moves.
 fn last_seen(pack: &Pack, text: &[u8], set: Set) -> Option<(usize, usize)> {
@@ -166,19 +155,81 @@ fn last_seen(pack: &Pack, text: &[u8], set: Set) -> Option<(usize, usize)> {
     last
 }
 
-/// Each leaf ends at the last byte where any terminal valid in its recorded state matches or is rejected; its terminal
-/// matches there, is outranked by nothing that matches the same bytes, and is alone or chosen by a group. Holds for
-/// the records of a refused parse too. The recorded states are those of the stack.
-pub fn leaves(
+/// What stands at a place for a state: a terminal of its own or layout, its length, whether a group chose it.
+struct Piece {
+    terminal: usize,
+    length: usize,
+    by_group: bool,
+}
+
+/// It ends at the last byte where any terminal that is valid in the state, or layout, matches or is rejected; it matches
+/// there, is outranked by nothing that matches the same bytes, and is alone or chosen by a group.
+fn piece(pack: &Pack, text: &[u8], state: usize) -> Result<Option<Piece>, String> {
+    let sought = (pack.valid_set(state) | pack.layout()) & !sets::single(0);
+    let Some((length, q)) = last_seen(pack, text, sought) else {
+        return Ok(None);
+    };
+    let accepted = pack.acc(q) & sought;
+    let mut members = sets::members(accepted);
+    let (terminal, by_group) = match (members.next(), members.next()) {
+        (None, _) => return Ok(None),
+        (Some(t), None) => (t, false),
+        _ => {
+            let group = (0..pack.sizes.groups).find(|&g| pack.group(g) == accepted);
+            (
+                pack.chosen(group.ok_or("neither alone nor in a group")?),
+                true,
+            )
+        }
+    };
+    if pack.dom(terminal) & (pack.acc(q) | pack.rej(q)) != sets::EMPTY {
+        return Err(format!("{terminal} is outranked"));
+    }
+    Ok(Some(Piece {
+        terminal,
+        length,
+        by_group,
+    }))
+}
+
+/// Past the layout that a state skips from a place on, and what stands there.
+fn past_layout(
+    pack: &Pack,
+    text: &[u8],
+    state: usize,
+    mut place: usize,
+    after_node: bool,
+    counts: &mut Counts,
+) -> Result<(usize, Option<Piece>), String> {
+    loop {
+        match piece(pack, &text[place..], state)? {
+            Some(piece) if sets::has(pack.layout(), piece.terminal) => {
+                place += piece.length;
+                counts.pieces += 1;
+                counts.pieces_by_group += usize::from(piece.by_group);
+                counts.pieces_after_node += usize::from(after_node);
+            }
+            piece => return Ok((place, piece)),
+        }
+    }
+}
+
+/// Leaves and skipped layout cover the text once and in order, up to the place that is given. The recorded states are
+/// those of the stack; each leaf is what its state sees past the layout that it skips. Holds for the records of a
+/// refused parse too.
+pub fn cover(
     pack: &Pack,
     text: &[u8],
     records: &[[u16; RECORD_WORDS]],
     counts: &mut Counts,
-) -> Result<(), String> {
+) -> Result<usize, String> {
     let mut stack = vec![0];
+    let mut at = past_layout(pack, text, 0, 0, false, counts)?;
     for &record in records {
         let [symbol, second, third, state] = record.map(usize::from);
-        if symbol >= FIRST_NONTERMINAL {
+        let mut place = at.0;
+        let after_node = symbol >= FIRST_NONTERMINAL;
+        if after_node {
             let height = stack.len().checked_sub(third);
             stack.truncate(height.ok_or("too few states")?);
             let there = symbol - FIRST_NONTERMINAL < pack.sizes.nonterminals;
@@ -187,50 +238,55 @@ pub fn leaves(
             }
             let goto = pack.goto(state, symbol - FIRST_NONTERMINAL);
             stack.push(goto.ok_or("no goto")?);
-            continue;
-        }
-        if stack.last() != Some(&state) || symbol >= pack.sizes.terminals || second > text.len() {
-            return Err(format!("{record:?} was not shifted by its state"));
-        }
-        let Action::Shift(next) = pack.action(state, symbol) else {
-            return Err(format!("{record:?} is no shift"));
-        };
-        stack.push(next);
-        counts.leaves += 1;
-        let valid = pack.valid_set(state) & !sets::single(0);
-        let Some((length, q)) = last_seen(pack, &text[second..], valid) else {
-            return Err(format!("{record:?}: nothing matches there"));
-        };
-        if length != third {
-            return Err(format!("{record:?}: the last length is {length}"));
-        }
-        let matching = pack.acc(q) | pack.rej(q);
-        if !sets::has(pack.acc(q), symbol) || pack.dom(symbol) & matching != sets::EMPTY {
-            return Err(format!("{record:?}: the terminal is outranked"));
-        }
-        let seen = pack.acc(q) & valid;
-        if seen != sets::single(symbol) {
-            counts.by_group += 1;
-            let chosen =
-                (0..pack.sizes.groups).any(|g| pack.group(g) == seen && pack.chosen(g) == symbol);
-            if !chosen {
-                return Err(format!("{record:?}: neither alone nor chosen by a group"));
+        } else {
+            if stack.last() != Some(&state) || symbol >= pack.sizes.terminals || second != place {
+                return Err(format!(
+                    "{record:?} was not shifted by its state at {place}"
+                ));
             }
+            let Action::Shift(next) = pack.action(state, symbol) else {
+                return Err(format!("{record:?} is no shift"));
+            };
+            stack.push(next);
+            let Some(piece) = &at.1 else {
+                return Err(format!("{record:?}: nothing matches there"));
+            };
+            if (piece.terminal, piece.length) != (symbol, third) {
+                let Piece {
+                    terminal, length, ..
+                } = piece;
+                return Err(format!(
+                    "{record:?}: there is {terminal} of length {length}"
+                ));
+            }
+            let layout = last_seen(pack, &text[place..], pack.layout());
+            counts.leaves += 1;
+            counts.by_group += usize::from(piece.by_group);
+            counts.over_layout += usize::from(layout.is_some_and(|(length, _)| length < third));
+            place += third;
         }
+        let top = stack[stack.len() - 1];
+        at = past_layout(pack, text, top, place, after_node, counts)?;
     }
-    Ok(())
+    Ok(at.0)
 }
 
 /// The counts as lines.
 pub fn table(counts: &Counts) -> String {
     let mut lines = format!(
-        "packs: {}\nparses: {}\naccepted: {}\nof these too deep to print: {}\nleaves: {}\nleaves chosen by a group: {}\n",
+        "packs: {}\nparses: {}\naccepted: {}\nof these too deep to print: {}\nleaves: {}\nleaves chosen by a group: {}\n\
+        leaves longer than layout that begins alike: {}\npieces of layout: {}\npieces chosen by a group: {}\n\
+        pieces skipped after a reduction: {}\n",
         counts.packs,
         counts.parses,
         counts.codes[0],
         counts.too_deep,
         counts.leaves,
-        counts.by_group
+        counts.by_group,
+        counts.over_layout,
+        counts.pieces,
+        counts.pieces_by_group,
+        counts.pieces_after_node
     );
     for (code, count) in counts.codes.iter().enumerate() {
         if *count > 0 {

@@ -129,7 +129,7 @@ fn scan_cases(mix: &mut Mix) -> Vec<Case> {
         &mut cases,
     );
     // The scans that the marked cases are made of: each text at each place with the sets of the small pack's rows, with
-    // layout, and with all but layout.
+    // and without layout, with layout, and with all but layout.
     let mut images: Vec<Image> = Vec::new();
     for marked in marked_parses() {
         let known = images.iter().find(|image| ***image == marked.image);
@@ -141,7 +141,7 @@ fn scan_cases(mix: &mut Mix) -> Vec<Case> {
             });
         }
         for start in 0..=marked.query.len() as u32 {
-            for set in [0x4, 0x2, 0x8, 0x6, 0xf] {
+            for set in [0x4, 0x2, 0xc, 0xa, 0x8, 0x6, 0xf] {
                 cases.push(Case::Scan {
                     image: image.clone(),
                     text: text(marked.query.as_bytes()),
@@ -359,7 +359,7 @@ fn parse_cases(mix: &mut Mix) -> Vec<Case> {
             allowance: u32::MAX,
         });
     }
-    for allowance in 0..14 {
+    for allowance in 0..11 {
         cases.push(Case::Parse {
             image: small.clone(),
             text: day.clone(),
@@ -423,6 +423,39 @@ fn parse_cases(mix: &mut Mix) -> Vec<Case> {
             });
         }
     }
+    // Request No. 2: layout and tokens that begin alike. Each pack, and what is made of it.
+    let operators = [&[][..], COMMENT_TO_THE_END];
+    let operators = operators.into_iter().chain(OPERATOR_OR_COMMENT);
+    for replaced in operators.chain(BLANK_OR_COMMENT) {
+        let image: Image = Rc::new(image_with(OPERATOR_PACK, replaced));
+        let queries = [
+            "a//=a",
+            " a //= // a",
+            "a//a",
+            "//=a",
+            "a//=a//=",
+            "a/",
+            "a//= a",
+            "a// a",
+            "a//",
+            "// a// // a",
+            "a //",
+            " ",
+            "  a  ",
+        ];
+        together(&image, &queries, &[], &mut cases);
+    }
+    let reduced: Image = Rc::new(image_of(REDUCED_PACK));
+    together(
+        &reduced,
+        &["a//=", "a//a", "a//"],
+        &[0, 1, 3, 4, 6, 7],
+        &mut cases,
+    );
+    let circle: Image = Rc::new(image_of(CIRCLE_PACK));
+    together(&circle, &["a", "ab", "aba"], &[0, 1, 2, 3], &mut cases);
+    let queries = ["  tax", "tax ", "tax day", " tax  by day "];
+    together(&small, &queries, &[0, 1, 2, 3, 4, 5, 6, 7], &mut cases);
     // The small pack with an accept in each row.
     for (row, accept) in [
         (0, "act=1,0,4,0"),
@@ -481,7 +514,7 @@ fn parse_cases(mix: &mut Mix) -> Vec<Case> {
     // Queries of 65,535 and 65,536 bytes.
     for length in [TEXT_LIMIT, TEXT_LIMIT + 1] {
         let text = Rc::new(vec![b'a'; length]);
-        for (tree, allowance) in [(40, u32::MAX), (40, 65_536), (40, 65_535), (0, 65_536)] {
+        for (tree, allowance) in [(40, u32::MAX), (40, 65_535), (40, 65_534), (0, 65_535)] {
             cases.push(Case::Parse {
                 image: small.clone(),
                 text: text.clone(),
@@ -503,6 +536,24 @@ fn parse_cases(mix: &mut Mix) -> Vec<Case> {
     }
     cases.extend(mix.greatest_bundle());
     cases
+}
+
+/// The check of an image, and its parses of the queries with ample allowance and with each of these.
+fn together(image: &Image, queries: &[&str], allowances: &[u32], cases: &mut Vec<Case>) {
+    cases.push(Case::Check {
+        image: image.clone(),
+    });
+    for query in queries {
+        let text = text(query.as_bytes());
+        for &allowance in [u32::MAX].iter().chain(allowances) {
+            cases.push(Case::Parse {
+                image: image.clone(),
+                text: text.clone(),
+                tree: 40,
+                allowance,
+            });
+        }
+    }
 }
 
 /// A chain of so many nodes of one child each, with a leaf at its end or without.

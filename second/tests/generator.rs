@@ -140,10 +140,10 @@ fn every_way_to_break_a_text_breaks_it() {
 }
 
 #[test]
-fn a_run_of_15_000_cases_hits_everything() {
+fn a_run_of_40_000_cases_hits_everything() {
     for seed in [1, 2] {
-        let hits = hits::run(15_000, seed);
-        assert_eq!(hits.cases, 15_000);
+        let hits = hits::run(40_000, seed);
+        assert_eq!(hits.cases, 40_000);
         assert_eq!(hits.missed(), Vec::<String>::new(), "seed {seed}");
         let wanted = hits::wanted();
         let others: Vec<&String> = hits.counts.keys().filter(|n| !wanted.contains(n)).collect();

@@ -71,13 +71,13 @@ fn tax_by_day_has_its_four_records() {
 #[test]
 fn readq_prints_tax_by_day_and_refused_texts() {
     let printed = readq(SMALL_PACK.as_bytes(), b"tax by day");
-    let expected = "code=0\nplace=10\nlength=0\nterminal=0\nrecords=4\nmoves=13\n\
+    let expected = "code=0\nplace=10\nlength=0\nterminal=0\nrecords=4\nmoves=10\n\
         rec=2,0,3,0\nrec=1,4,2,1\nrec=2,7,3,2\nrec=64,1,3,0\n";
     assert_eq!(printed, expected);
     assert_eq!(readq(b"", b"tax"), "code=1\nplace=0\n");
     assert_eq!(
         readq(SMALL_PACK.as_bytes(), b"tax day"),
-        "code=8\nplace=4\nlength=3\nterminal=2\nrecords=1\nmoves=10\nrec=2,0,3,0\n"
+        "code=8\nplace=4\nlength=3\nterminal=2\nrecords=1\nmoves=8\nrec=2,0,3,0\n"
     );
     assert_eq!(
         readq(SMALL_PACK.as_bytes(), &vec![b'a'; 65_536]),

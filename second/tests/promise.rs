@@ -2,7 +2,7 @@
 
 use second::image::Pack;
 use second::marked::{small_image, TAX_BY_DAY};
-use second::promise::{accepted, leaves, run, Counts};
+use second::promise::{accepted, cover, run, Counts};
 
 #[test]
 fn parses_of_passing_packs_keep_the_promise() {
@@ -10,6 +10,9 @@ fn parses_of_passing_packs_keep_the_promise() {
     assert!(counts.parses >= 20_000);
     assert!(counts.codes[0] > 4_000, "{counts:?}");
     assert!(counts.by_group > 50, "{counts:?}");
+    assert!(counts.over_layout > 50, "{counts:?}");
+    assert!(counts.pieces_by_group > 50, "{counts:?}");
+    assert!(counts.pieces_after_node > 20, "{counts:?}");
     assert_eq!((counts.codes[9], counts.codes[10]), (0, 0));
     for code in [7, 8, 11, 12, 13] {
         assert!(counts.codes[code] > 0, "code {code}");
@@ -22,10 +25,7 @@ fn wrong_records_are_refused() {
     let pack = Pack::new(&image);
     let (query, _, records) = TAX_BY_DAY;
     let text = query.as_bytes();
-    let kept = |records: &[[u16; 4]]| {
-        accepted(&pack, text, records)
-            .and_then(|()| leaves(&pack, text, records, &mut Counts::default()))
-    };
+    let kept = |records: &[[u16; 4]]| accepted(&pack, text, records, &mut Counts::default());
     assert_eq!(kept(&records), Ok(()));
     // Each number of each record, changed alone.
     for record in 0..4 {
@@ -52,9 +52,8 @@ fn wrong_records_are_refused() {
     assert!(kept(&[]).is_err());
     // A shorter leaf where a longer one matches.
     let short = [[2, 0, 2, 0], [64, 0, 1, 0]];
-    assert!(accepted(&pack, b"tax", &short).is_err());
-    assert!(leaves(&pack, b"tax", &short, &mut Counts::default()).is_err());
+    assert!(cover(&pack, b"tax", &short, &mut Counts::default()).is_err());
     // The name `b` before the keyword's `y`: the error that began it all.
     let cut = [[2, 0, 1, 0], [64, 0, 1, 0]];
-    assert!(leaves(&pack, b"by", &cut, &mut Counts::default()).is_err());
+    assert!(cover(&pack, b"by", &cut, &mut Counts::default()).is_err());
 }

@@ -99,7 +99,7 @@ fn the_parse_refuses_6_then_4_then_runs() {
         ..Parsed::default()
     };
     assert_eq!(parse(&image, b"tax", &mut [], 0), refused);
-    // The run: 13 for the layout scan comes before anything else.
+    // The run: 13 for the first scan comes before anything else.
     let parsed = parse(&small_image(), b"tax", &mut [], 0);
     assert_eq!((parsed.code, parsed.place), (13, 0));
 }

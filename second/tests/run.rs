@@ -1,4 +1,4 @@
-//! The run of a parse: layout, the second scan, groups, and tokens that change with the state.
+//! The run of a parse: the second scan, groups, layout that needs one, and tokens that change with the state.
 
 use second::check::check;
 use second::gen::tables::{nonterminal, Production, ScanSets, Tables};
@@ -85,10 +85,15 @@ fn layout_rejected() -> Tables {
 
 #[test]
 fn the_second_scan_leaves_layout_out() {
-    // The layout scan of `ab` takes 2 moves, the token's 1, the second 2: `a` is remembered, and the reject of layout
-    // does not count.
+    // The scan of `ab` for 1 and layout takes 2 moves, the second 2: `a` is remembered, and the reject of layout does not
+    // count.
     let (numbers, _) = run(&layout_rejected(), b"ab");
-    assert_eq!(numbers, [8, 0, 1, 2, 0, 5]);
+    assert_eq!(numbers, [8, 0, 1, 2, 0, 4]);
+    // Where `a` is valid it is forgotten all the same, and the second scan names it.
+    let mut valid = layout_rejected();
+    valid.act[0][2] = shift(1);
+    assert_eq!(run(&valid, b"ab").0, [8, 0, 1, 2, 0, 4]);
+    assert_eq!(run(&valid, b"a").0, [8, 1, 0, 0, 1, 1]);
     let (numbers, _) = run(&layout_rejected(), b"b");
     assert_eq!(numbers, [7, 0, 0, 0, 0, 0]);
 }
@@ -211,18 +216,17 @@ fn a_token_is_not_kept_across_a_reduction() {
 }
 
 #[test]
-fn layout_is_not_skipped_after_a_reduction() {
+fn layout_costs_no_scan_of_its_own() {
     let mut t = longer_after_reduction();
     t.dom.push(0);
     t.act.iter_mut().for_each(|row| row.push(0));
     t.layout = 0b10000;
     t.scan[0].poss |= t.layout;
-    // A layout scan takes one move in vain before `a` and one before `bc`, and none after the reduction.
-    assert_eq!(run(&t, b"abc").0, [0, 3, 0, 0, 4, 5 + 2]);
+    assert_eq!(run(&t, b"abc").0, [0, 3, 0, 0, 4, 5]);
 }
 
 #[test]
-fn several_layout_terminals_at_once_are_skipped_without_a_group() {
+fn several_layout_terminals_at_once_need_a_group() {
     let mut t = two_at_once();
     t.dom.extend([0, 0]);
     t.act.iter_mut().for_each(|row| row.extend([0, 0]));
@@ -232,10 +236,13 @@ fn several_layout_terminals_at_once_are_skipped_without_a_group() {
     t.scan[0].poss |= t.layout;
     t.scan.push(sets(t.layout, 0, t.layout));
     t.groups = vec![(0b0110, 2)];
+    assert_eq!(run(&t, b"  a b  ").0, [9, 0, 1, 0, 0, 1]);
+    assert_eq!(run(&t, b"a b").0, [9, 1, 1, 0, 1, 2]);
+    t.groups.push((0b11_0000, 5));
     let (numbers, records) = run(&t, b"  a b  ");
     assert_eq!(records, [[2, 2, 1, 0], [3, 4, 1, 1], [64, 0, 2, 0]]);
-    // 5 blanks, and before each of the two tokens one layout scan that takes a move in vain.
-    assert_eq!(numbers, [0, 7, 0, 0, 3, 5 + 2 + 2]);
+    // A move for each byte.
+    assert_eq!(numbers, [0, 7, 0, 0, 3, 7]);
     // Layout alone, and layout before something that is nothing: the place is past it.
     assert_eq!(run(&t, b"   ").0, [8, 3, 0, 0, 0, 3]);
     assert_eq!(run(&t, b"  c").0, [7, 2, 0, 0, 0, 2]);

@@ -8,13 +8,13 @@ use lib.Dec.{eqb, leb}
 use borrow.Author.Tests.{eq-eqb, le-leb, eqb-true, leb-true}
 use Rattle.sets.specs.Sets.{member, meet, several, subset}
 use Rattle.sets.proofs.Laws.{has-and, has-lt}
-use Rattle.pack.specs.Image.{terminals, states, classes, dom, lhs, len, symbol, act, goto, move, acc, rej, poss, validSet, startSymbol}
+use Rattle.pack.specs.Image.{terminals, states, classes, dom, lhs, len, symbol, act, goto, move, acc, rej, poss, startSymbol}
 use Rattle.numbers.specs.declared.Verdict.the-variants.{Good}
 use Rattle.shape.specs.Shape.{shape}
 use Rattle.shape.proofs.Good.{good-laid}
 use Rattle.conditions.specs.Edges.{Edge, Back, symbols, leads, enters, onlyOn, reached}
 use Rattle.conditions.specs.Tests.{allBelow, implies, same, Decides}
-use Rattle.conditions.specs.Conditions.{K3, K4, K5, K6, Reduces, outranked, k1, within, k2, isGroup, settled, k3, k4, reduces, steps, ends, k5, k6, fromStart, Subset, matched, Outranked, K1, K2}
+use Rattle.conditions.specs.Conditions.{K3, K4, K5, K6, Reduces, outranked, k1, within, k2, isGroup, settled, k3, k4, reduces, steps, ends, k5, k6, fromStart, Subset, matched, Outranked, K1, K2, sought}
 use Rattle.conditions.specs.Check.{Condition, c1, c2, c3, c4, c5, c6, firsts, seconds, Meets, test, later}
 use Rattle.conditions.proofs.TestLaws.{and-left, and-right, and-both, implies-gives, implies-all, same-is, same-all, all-each, all-true, some-one, some-true, member-has, has-member, some-terminal, terminal-some, subset-is}
 use Rattle.conditions.proofs.EdgeLaws.{edge-from, edge-on, leads-by, leads-is, enters-by, enters-is, only-each, only-is, back-from, reached-back, back-reached}
@@ -83,7 +83,7 @@ module _ (img : List ℕ) where
   pub decides-3 : (s q : ℕ) → Decides (k3 img s q) (K3 img s q)
   unfolding k3 settled isGroup
   decides-3 s q =
-      let both = meet (acc img q) (validSet img s) in
+      let both = meet (acc img q) (sought img s) in
       record {
         sound = λ e. record { grouped = λ f. let r = some-one _ _ (implies-gives (several both) (isGroup img both) e f) in (r .0, r .1, eqb-true _ _ (r .2)) };
         complete = λ k. implies-all (several both) (isGroup img both) (λ f. let r = k .grouped f in some-true _ _ (r .0) (r .1) (eq-eqb _ _ (r .2)));

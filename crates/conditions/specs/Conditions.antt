@@ -7,7 +7,7 @@ use Prim.Native.Nat.{ℕ, zero, suc, _+_, _*_, _-_, _<_}
 use lib.Dec.{eqb, leb}
 use Rattle.sets.specs.Sets.{has, member, meet, union, subset, several}
 use Rattle.numbers.specs.declared.Verdict.the-variants.{Good}
-use Rattle.pack.specs.Image.{terminals, productions, states, scanStates, classes, groups, dom, lhs, len, symbol, act, goto, move, acc, rej, poss, groupSet, validSet, startSymbol}
+use Rattle.pack.specs.Image.{terminals, productions, states, scanStates, classes, groups, layout, dom, lhs, len, symbol, act, goto, move, acc, rej, poss, groupSet, validSet, startSymbol}
 use Rattle.shape.specs.Shape.{shape}
 use Rattle.conditions.specs.Tests.{allBelow, someBelow, implies, same}
 use Rattle.conditions.specs.Edges.{Edge, Back, symbols, leads, enters, onlyOn, reached}
@@ -50,10 +50,14 @@ within img q (suc p) = subset (poss img p) (poss img q)
 unfoldable pub k2 : List ℕ → ℕ → Bool
 k2 img q = subset (matched img q) (poss img q) && allBelow (classes img) (λ c. within img q (move img q c))
 
--- K3 of parse state s and scan state q: where q accepts more than one terminal that s allows, they are the set of a group.
+-- V(s) ∪ layout, what the scans in parse state s are made for: the terminals that it allows, and layout.
+abbrev pub sought : List ℕ → ℕ → ℕ
+sought img s = union (validSet img s) (layout img)
+
+-- K3 of parse state s and scan state q: where q accepts more than one terminal that s allows or that is layout, they are the set of a group.
 pub record K3 (img : List ℕ) (s q : ℕ) : Type 0 where
-  pub grouped : several (meet (acc img q) (validSet img s)) ≡ true
-      → (g : ℕ) × (g < groups img) × (groupSet img g ≡ meet (acc img q) (validSet img s))
+  pub grouped : several (meet (acc img q) (sought img s)) ≡ true
+      → (g : ℕ) × (g < groups img) × (groupSet img g ≡ meet (acc img q) (sought img s))
 
 unfoldable pub isGroup : List ℕ → ℕ → Bool
 isGroup img set = someBelow (groups img) (λ g. eqb (groupSet img g) set)
@@ -62,7 +66,7 @@ unfoldable pub settled : List ℕ → ℕ → ℕ → Bool
 settled img q v = let both = meet (acc img q) v in implies (several both) (isGroup img both)
 
 unfoldable pub k3 : List ℕ → ℕ → ℕ → Bool
-k3 img s q = settled img q (validSet img s)
+k3 img s q = settled img q (sought img s)
 
 -- K4 of parse state v: no edge leads to state 0, and all edges into v carry one symbol.
 pub record K4 (img : List ℕ) (v : ℕ) : Type 0 where

@@ -1,49 +1,49 @@
 -- Laws of the functions that find the next token: one for each way out. Assumes nothing.
 use mathlib.Core.Path.{_≡_, refl, sym, ap, _∙_}
-use mathlib.Core.Bool.{Bool, true, false, _&&_}
-use mathlib.Core.List.{List, [], _∷_}
-use Prim.Native.Nat.{ℕ, zero, suc, _+_, _-_, _*_, _^_, _<_, _≤_}
-use native.Mathlib.Nat.{add-zero, zero-add, sub-zero}
+use mathlib.Core.Bool.{Bool, true, false}
+use mathlib.Core.List.{List}
+use Prim.Native.Nat.{ℕ, zero, suc, _+_, _-_, _^_, _<_, _≤_}
 use native.Mathlib.Numerals.{add-one}
 use native.Mathlib.Omega.{arith}
 use lib.Dec.{eqb, leb}
-use lib.ListN.{length, getD, take, drop, set, length-set, length-drop, drop-of-length-le}
+use lib.ListN.{length, getD, drop, set, length-set, length-drop}
 use lib.Seq.{getD-set-same, getD-set-other}
 use lib.Pow.{pow-pos}
-use lib.Bits.{bitAnd, and-le-l}
+use lib.Bits.{or-lt}
 use borrow.Author.Tests.{eq-eqb, ne-eqb, le-leb, lt-leb, leb-true, leb-false, eqb-true, eqb-false}
-use Rattle.sets.specs.Sets.{has, single, less, isEmpty, several, lowest}
+use Rattle.sets.specs.Sets.{has, member, isEmpty, several, lowest}
 use Rattle.sets.proofs.Laws.{has-above, lowest-lt, lowest-in}
 use Rattle.numbers.specs.declared.Verdict.the-variants.{Good}
-use Rattle.pack.specs.Image.{terminals, states, groups, act, layout, allButEnd, allButEndAndLayout, groupSet, chosen}
+use Rattle.pack.specs.Image.{terminals, groups, layout, allButEndAndLayout, groupSet, chosen, validSet}
 use Rattle.shape.specs.Shape.{shape}
 use Rattle.pack.proofs.Valid.{valid-lt}
+use Rattle.shape.proofs.Good.{good-layout}
+use Rattle.conditions.proofs.TestLaws.{and-left}
 use Rattle.scan.specs.declared.Stop.{Stop}
-use Rattle.scan.specs.Scan.{scan, nothing}
+use Rattle.scan.specs.Scan.{scan}
 use Rattle.conditions.specs.Conditions.{Subset}
 use Rattle.scan.specs.Token.{chosenIn, terminalOf}
-use Rattle.scan.proofs.Theory.{scan-stops, at-end}
-use Rattle.scan.proofs.Laws.{rest-of}
+use Rattle.scan.proofs.Theory.{scan-stops}
 use Rattle.look.specs.declared.Spot.{Spot}
 use Rattle.look.specs.declared.Sought.{Sought}
 use Rattle.look.specs.declared.Looked.{Looked}
-use Rattle.look.specs.Look.{seek, scanned, past, settled, refused, tokenSet, rescan, choose, token, skip, look}
+use Rattle.look.specs.Look.{seek, scanned, past, refused, found, soughtSet, rescan, choose, piece, isLayout, lookOn, look}
 use Rattle.shape.proofs.GoodParser.{good-group}
 use Rattle.look.specs.Inner.{Known, Within, Terms, SoughtWithin, LookedWithin}
 
 -- The row of sets, with one more of them.
-pub known-more : (img known : List ℕ) (s v : ℕ) → Known img known → v ≡ tokenSet img s → s < length known → Known img (set known s v)
+pub known-more : (img known : List ℕ) (s v : ℕ) → Known img known → v ≡ soughtSet img s → s < length known → Known img (set known s v)
 known-more img known s v k e l = record { size = simp length-set (k .size); each = λ i h. go i (eqb i s) refl h }
   where
-    go : (i : ℕ) (b : Bool) → eqb i s ≡ b → (getD (set known s v) i 0 ≡ 0 → ⊥) → getD (set known s v) i 0 ≡ tokenSet img i
+    go : (i : ℕ) (b : Bool) → eqb i s ≡ b → (getD (set known s v) i 0 ≡ 0 → ⊥) → getD (set known s v) i 0 ≡ soughtSet img i
     go i true x h = let z : i ≡ s = eqb-true _ _ x in rw z (getD-set-same known s v 0 l ∙ e)
     go i false x h =
         let o = getD-set-other known s i v 0 (eqb-false _ _ x) in
         o ∙ k .each i (λ z. h (o ∙ z))
 
--- The set of a token has no bit T or above.
-pub token-lt : (img : List ℕ) (s : ℕ) → tokenSet img s < 2 ^ terminals img
-token-lt img s = omega (arith, valid-lt img s)
+-- The set that is scanned for has no bit T or above.
+pub sought-lt : (img : List ℕ) (s : ℕ) → shape img ≡ Good → soughtSet img s < 2 ^ terminals img
+sought-lt img s good = omega (arith, or-lt (terminals img) (validSet img s) (layout img) (valid-lt img s) (good-layout img good .0))
 
 -- A set below 2 ^ T, or a part of it, has terminals only.
 terms-of : (img : List ℕ) (x v : ℕ) → v < 2 ^ terminals img → Subset x v → Terms img x
@@ -158,114 +158,130 @@ module _ (img text : List ℕ) (allowance : ℕ) (at : Spot) {v : ℕ} {f : Soug
   unfolding rescan isEmpty
   rescan-some s n et = simp (rescan, isEmpty, ← sought, s, ne-eqb _ _ n, ← et)
 
--- The token.
-module _ (img text : List ℕ) (allowance s : ℕ) (at : Spot) where
-  pub token-end : length text ≤ at .place → refused 0 0 0 at ≡ token img text allowance s at
-  unfolding token
-  token-end h = simp (token, le-leb _ _ h)
+-- One scan for the set of a state, and what it comes to.
+module _ (img text : List ℕ) (allowance s : ℕ) (at : Spot) {v : ℕ} {f : Sought} (ev : v ≡ soughtSet img s) (e : f ≡ seek img text allowance v at) where
+  looked-for : f ≡ seek img text allowance (soughtSet img s) at
+  looked-for = e ∙ ap (λ (x : ℕ). seek img text allowance x at) ev
 
-  module _ (h : at .place < length text) {v : ℕ} {f : Sought} (ev : v ≡ tokenSet img s) (e : f ≡ seek img text allowance v at) where
-    looked-for : f ≡ seek img text allowance (tokenSet img s) at
-    looked-for = e ∙ ap (λ (x : ℕ). seek img text allowance x at) ev
+  pub piece-spent : f .spent ≡ true → refused 13 0 0 (f .at) ≡ piece img text allowance s at
+  unfolding piece
+  piece-spent t = simp (piece, ← looked-for, t)
 
-    pub token-spent : f .spent ≡ true → refused 13 0 0 (f .at) ≡ token img text allowance s at
-    unfolding token
-    token-spent t = simp (token, lt-leb _ _ h, ← looked-for, t)
+  pub piece-none : f .spent ≡ false → f .set ≡ 0 → rescan img text allowance (f .at) ≡ piece img text allowance s at
+  unfolding piece isEmpty
+  piece-none t n = simp (piece, isEmpty, ← looked-for, t, eq-eqb _ _ n)
 
-    pub token-none : f .spent ≡ false → f .set ≡ 0 → rescan img text allowance (f .at) ≡ token img text allowance s at
-    unfolding token isEmpty
-    token-none t n = simp (token, isEmpty, lt-leb _ _ h, ← looked-for, t, eq-eqb _ _ n)
+  pub piece-some : f .spent ≡ false → (f .set ≡ 0 → ⊥) → choose img (f .set) (f .length) (f .at) ≡ piece img text allowance s at
+  unfolding piece isEmpty
+  piece-some t n = simp (piece, isEmpty, ← looked-for, t, ne-eqb _ _ n)
 
-    pub token-some : f .spent ≡ false → (f .set ≡ 0 → ⊥) → choose img (f .set) (f .length) (f .at) ≡ token img text allowance s at
-    unfolding token isEmpty
-    token-some t n = simp (token, isEmpty, lt-leb _ _ h, ← looked-for, t, ne-eqb _ _ n)
+-- A layout terminal, or not.
+module _ (img : List ℕ) (l : Looked) where
+  pub layout-found : {v : ℕ} {b : Bool} → l .code ≡ 0 → v ≡ layout img → b ≡ member v (l .terminal) → b ≡ isLayout img l
+  unfolding isLayout
+  layout-found z ev eb = simp (isLayout, eq-eqb _ _ z, ← ev) eb
 
--- Layout.
+  pub layout-not : (l .code ≡ 0 → ⊥) → false ≡ isLayout img l
+  unfolding isLayout
+  layout-not n = simp (isLayout, ne-eqb _ _ n)
+
+  layout-done : isLayout img l ≡ true → l .code ≡ 0
+  unfolding isLayout
+  layout-done e = eqb-true _ _ (and-left _ _ e)
+
+-- A piece of layout takes at least a byte.
 module _ (img text : List ℕ) (allowance : ℕ) where
   same-place : (v : ℕ) (at : Spot) → seek img text allowance v at .at .place ≡ at .place
   unfolding seek
   same-place v at = refl
 
-  pub seek-place : (v : ℕ) (at : Spot) {f : Sought} → f ≡ seek img text allowance v at → f .at .place ≡ at .place
-  seek-place v at e = ap (λ (f : Sought). f .at .place) e ∙ same-place v at
-
   some-byte : (v : ℕ) (at : Spot) → (seek img text allowance v at .set ≡ 0 → ⊥) → 1 ≤ seek img text allowance v at .length
   unfolding seek
   some-byte v at n = scan-stops img v (allowance - at .moves) (drop (at .place) text) .some n
 
-  -- A match lies within the text.
-  no-match : (v : ℕ) (at : Spot) → length text ≤ at .place → seek img text allowance v at .set ≡ 0
-  unfolding seek
-  no-match v at h = rw (drop-of-length-le text h, at-end img v (allowance - at .moves) 0 0 nothing)
-
-  -- What the last scan gave, for any count: the allowance is used up, or nothing matches.
-  module _ (at : Spot) {v : ℕ} {f : Sought} (ev : v ≡ layout img) (e : f ≡ seek img text allowance v at) where
-    here : f ≡ seek img text allowance (layout img) at
-    here = e ∙ ap (λ (x : ℕ). seek img text allowance x at) ev
-
-    pub skip-spent : (n : ℕ) → f .spent ≡ true → skip img text allowance n at ≡ f
-    unfolding skip
-    skip-spent zero s = sym here
-    skip-spent (suc n) s = simp (skip, ← here, s)
-
-    pub skip-none : (n : ℕ) → f .spent ≡ false → f .set ≡ 0 → skip img text allowance n at ≡ f
-    unfolding skip isEmpty
-    skip-none zero s n = sym here
-    skip-none (suc k) s n = simp (skip, isEmpty, ← here, s, eq-eqb _ _ n)
-
-    pub skip-more : (n : ℕ) → f .spent ≡ false → (f .set ≡ 0 → ⊥) → skip img text allowance (suc n) at ≡ skip img text allowance n (past (f .length) (f .at .due) (f .at))
-    unfolding skip isEmpty
-    skip-more k s n = simp (skip, isEmpty, ← here, s, ne-eqb _ _ n)
-
-  -- The count never runs out: any two that are at least the bytes that are left give the same.
-  no-more : (n m : ℕ) (at : Spot) (x : Bool) → seek img text allowance (layout img) at .spent ≡ x → seek img text allowance (layout img) at .set ≡ 0
-      → skip img text allowance n at ≡ skip img text allowance m at
-  no-more n m at true s e = skip-spent at refl refl n s ∙ sym (skip-spent at refl refl m s)
-  no-more n m at false s e = skip-none at refl refl n s e ∙ sym (skip-none at refl refl m s e)
-
-  pub skip-enough : (n m : ℕ) (at : Spot) → length text - at .place ≤ n → length text - at .place ≤ m → skip img text allowance n at ≡ skip img text allowance m at
-  skip-enough zero m at hn hm = no-more zero m at _ refl (no-match (layout img) at (omega arith))
-  skip-enough (suc n) zero at hn hm = no-more (suc n) zero at _ refl (no-match (layout img) at (omega arith))
-  skip-enough (suc n) (suc m) at hn hm = go (skip-enough n m) (seek img text allowance (layout img) at .spent) refl (eqb (seek img text allowance (layout img) at .set) 0) refl
+  rescan-refuses : (at : Spot) → rescan img text allowance at .code ≡ 0 → ⊥
+  rescan-refuses at = let f = seek img text allowance (allButEndAndLayout img) at in go (f .spent) refl (eqb (f .set) 0) refl
     where
-      go : ((p : Spot) → length text - p .place ≤ n → length text - p .place ≤ m → skip img text allowance n p ≡ skip img text allowance m p)
-          → (x : Bool) → seek img text allowance (layout img) at .spent ≡ x → (y : Bool) → eqb (seek img text allowance (layout img) at .set) 0 ≡ y
-          → skip img text allowance (suc n) at ≡ skip img text allowance (suc m) at
-      go ih x s true g = no-more (suc n) (suc m) at x s (eqb-true _ _ g)
-      go ih true s false g = skip-spent at refl refl (suc n) s ∙ sym (skip-spent at refl refl (suc m) s)
-      go ih false s false g =
-          let one = some-byte (layout img) at (eqb-false _ _ g) in
-          let q = same-place (layout img) at in
-          skip-more at refl refl n s (eqb-false _ _ g) ∙ (ih _ (omega (arith, one, q)) (omega (arith, one, q)) ∙ sym (skip-more at refl refl m s (eqb-false _ _ g)))
+      go : (x : Bool) → seek img text allowance (allButEndAndLayout img) at .spent ≡ x → (y : Bool) → eqb (seek img text allowance (allButEndAndLayout img) at .set) 0 ≡ y
+          → rescan img text allowance at .code ≡ 0 → ⊥
+      go true e y f = rw (← rescan-spent img text allowance at refl refl e) (λ z. omega arith)
+      go false e true f = rw (← rescan-none img text allowance at refl refl e (eqb-true _ _ f)) (λ z. omega arith)
+      go false e false f = rw (← rescan-some img text allowance at refl refl e (eqb-false _ _ f) refl) (λ z. omega arith)
 
-  -- A piece of layout is skipped, and the rest from there on.
-  module _ (at : Spot) {v : ℕ} {f : Sought} (ev : v ≡ layout img) (e : f ≡ seek img text allowance v at) where
-    pub skip-on : f .spent ≡ false → (f .set ≡ 0 → ⊥) → f .at .place + f .length ≤ length text → 1 ≤ f .length
-        → skip img text allowance (length text - at .place) at
-        ≡ skip img text allowance (length text - (f .at .place + f .length)) (past (f .length) (f .at .due) (f .at))
-    skip-on s n w l =
-        let q : f .at .place ≡ at .place = seek-place v at e in
-        let left : length text - at .place ≡ suc (length text - (at .place + 1)) = omega arith in
-        rw left
-        (skip-more at ev e (length text - (at .place + 1)) s n
-        ∙ skip-enough (length text - (at .place + 1)) (length text - (f .at .place + f .length)) (past (f .length) (f .at .due) (f .at)) (omega arith) (omega arith))
+  choose-size : (set size : ℕ) (at : Spot) → choose img set size at .at .place + choose img set size at .length ≡ at .place + size
+  choose-size set size at = go (terminalOf img set) refl
+    where
+      go : (t : ℕ) → terminalOf img set ≡ t → choose img set size at .at .place + choose img set size at .length ≡ at .place + size
+      go zero e = rw (← choose-none img set size at (sym e) refl) refl
+      go (suc t) e = rw (← choose-some img set size at (sym e) (λ z. omega arith)) refl
 
-  module _ (s : ℕ) (at : Spot) where
-    pub look-token : at .due ≡ false → token img text allowance s at ≡ look img text allowance s at
-    unfolding look
-    look-token d = simp (look, d)
+  pub layout-size : (s : ℕ) (at : Spot) → isLayout img (piece img text allowance s at) ≡ true
+      → at .place < piece img text allowance s at .at .place + piece img text allowance s at .length
+  layout-size s at i = let f = seek img text allowance (soughtSet img s) at in go (f .spent) refl (eqb (f .set) 0) refl (layout-done img _ i)
+    where
+      go : (x : Bool) → seek img text allowance (soughtSet img s) at .spent ≡ x → (y : Bool) → eqb (seek img text allowance (soughtSet img s) at .set) 0 ≡ y
+          → piece img text allowance s at .code ≡ 0 → at .place < piece img text allowance s at .at .place + piece img text allowance s at .length
+      go true e y f = rw (← piece-spent img text allowance s at refl refl e) (λ z. absurd (omega arith))
+      go false e true f = rw (← piece-none img text allowance s at refl refl e (eqb-true _ _ f)) (λ z. absurd (rescan-refuses _ z))
+      go false e false f =
+          let k = seek img text allowance (soughtSet img s) at in
+          let q = same-place (soughtSet img s) at in
+          let one = some-byte (soughtSet img s) at (eqb-false _ _ f) in
+          rw (← piece-some img text allowance s at refl refl e (eqb-false _ _ f)) (λ z. omega (arith, choose-size (k .set) (k .length) (k .at), q, one))
 
-    module _ (d : at .due ≡ true) {f : Sought} (e : f ≡ skip img text allowance (length text - at .place) at) where
-      pub look-spent : f .spent ≡ true → refused 13 0 0 (f .at) ≡ look img text allowance s at
+  -- At the end of the text, for any count; before it a token, or one piece of layout and the rest.
+  module _ (s : ℕ) where
+    on-end : (n : ℕ) (at : Spot) → length text ≤ at .place → lookOn img text allowance s n at ≡ found 0 0 at
+    unfolding lookOn
+    on-end zero at h = refl
+    on-end (suc n) at h = simp (lookOn, le-leb _ _ h)
+
+    module _ (n : ℕ) (at : Spot) (h : at .place < length text) where
+      on-token : isLayout img (piece img text allowance s at) ≡ false → lookOn img text allowance s (suc n) at ≡ piece img text allowance s at
+      unfolding lookOn
+      on-token i = simp (lookOn, lt-leb _ _ h, i)
+
+      on-layout : isLayout img (piece img text allowance s at) ≡ true
+          → lookOn img text allowance s (suc n) at ≡ lookOn img text allowance s n (past (piece img text allowance s at .length) (piece img text allowance s at .at))
+      unfolding lookOn
+      on-layout i = simp (lookOn, lt-leb _ _ h, i)
+
+    -- The count never runs out: any two that are at least the bytes that are left give the same.
+    pub on-enough : (n m : ℕ) (at : Spot) → length text - at .place ≤ n → length text - at .place ≤ m → lookOn img text allowance s n at ≡ lookOn img text allowance s m at
+    on-enough zero m at hn hm = on-end zero at (omega arith) ∙ sym (on-end m at (omega arith))
+    on-enough (suc n) zero at hn hm = on-end (suc n) at (omega arith) ∙ sym (on-end zero at (omega arith))
+    on-enough (suc n) (suc m) at hn hm = go (on-enough n m) (leb (length text) (at .place)) refl (isLayout img (piece img text allowance s at)) refl
+      where
+        go : ((p : Spot) → length text - p .place ≤ n → length text - p .place ≤ m → lookOn img text allowance s n p ≡ lookOn img text allowance s m p)
+            → (x : Bool) → leb (length text) (at .place) ≡ x → (y : Bool) → isLayout img (piece img text allowance s at) ≡ y
+            → lookOn img text allowance s (suc n) at ≡ lookOn img text allowance s (suc m) at
+        go ih true e y i = on-end (suc n) at (leb-true _ _ e) ∙ sym (on-end (suc m) at (leb-true _ _ e))
+        go ih false e false i = on-token n at (leb-false _ _ e) i ∙ sym (on-token m at (leb-false _ _ e) i)
+        go ih false e true i =
+            let l = layout-size s at i in
+            on-layout n at (leb-false _ _ e) i ∙ (ih _ (omega (arith, l)) (omega (arith, l)) ∙ sym (on-layout m at (leb-false _ _ e) i))
+
+    module _ (at : Spot) where
+      pub look-end : length text ≤ at .place → found 0 0 at ≡ look img text allowance s at
       unfolding look
-      look-spent t = simp (look, d, ← e, t)
+      look-end h = sym (on-end _ at h)
 
-      pub look-then : f .spent ≡ false → token img text allowance s (settled (f .at)) ≡ look img text allowance s at
-      unfolding look
-      look-then t = simp (look, d, ← e, t)
+      module _ (h : at .place < length text) {l : Looked} {b : Bool} (e : l ≡ piece img text allowance s at) (eb : b ≡ isLayout img l) where
+        which : {x : Bool} → b ≡ x → isLayout img (piece img text allowance s at) ≡ x
+        which ex = ap (λ (k : Looked). isLayout img k) (sym e) ∙ (sym eb ∙ ex)
 
-pub within-stop : (img text : List ℕ) (allowance : ℕ) (at : Spot) {code : ℕ} → Within text allowance at → 1 ≤ terminals img → LookedWithin img text allowance (refused code 0 0 at)
-within-stop img text allowance at w l = record { place = omega (arith, w .place); moves = w .moves; terminal = l }
+        one-more : length text - at .place ≡ suc (length text - at .place - 1)
+        one-more = omega arith
 
-pub within-settled : (text : List ℕ) (allowance : ℕ) (at : Spot) → Within text allowance at → Within text allowance (settled at)
-within-settled text allowance at w = record { place = w .place; moves = w .moves }
+        pub look-token : b ≡ false → l ≡ look img text allowance s at
+        unfolding look
+        look-token f = e ∙ sym (rw one-more (on-token _ at h (which f)))
+
+        pub look-less : b ≡ true → at .place < l .at .place + l .length
+        look-less t = rw e (layout-size s at (which t))
+
+        pub look-on : b ≡ true → look img text allowance s at ≡ look img text allowance s (past (l .length) (l .at))
+        unfolding look
+        look-on t =
+            let g = layout-size s at (which t) in
+            rw (e, one-more) (on-layout _ at h (which t) ∙ on-enough _ _ _ (omega (arith, g)) (omega (arith, g)))

@@ -8,12 +8,12 @@ use Rattle.pack.specs.Image.{terminals, mostParseStates}
 use Rattle.look.specs.declared.Spot.{Spot}
 use Rattle.look.specs.declared.Sought.{Sought}
 use Rattle.look.specs.declared.Looked.{Looked}
-use Rattle.look.specs.Look.{tokenSet}
+use Rattle.look.specs.Look.{soughtSet}
 
 -- Each set in the row is that of its state, or 0 for not yet found.
 pub record Known (img known : List ℕ) : Type 0 where
   pub size : length known ≡ 128
-  pub each : (s : ℕ) → (getD known s 0 ≡ 0 → ⊥) → getD known s 0 ≡ tokenSet img s
+  pub each : (s : ℕ) → (getD known s 0 ≡ 0 → ⊥) → getD known s 0 ≡ soughtSet img s
 
 -- A spot within the text and the allowance.
 pub record Within (text : List ℕ) (allowance : ℕ) (at : Spot) : Type 0 where

@@ -1,29 +1,27 @@
--- Manual, section 3.1: what the parse looks for in the text. Layout is skipped where it is due, and the next token is found, from a parse
--- state and a spot in the text alone.
-use mathlib.Core.Bool.{Bool, true, false}
+-- Manual, section 3.1: what the parse looks for in the text. Layout and the state's terminals are scanned for together; layout is skipped,
+-- and the next token is found, from a parse state and a spot in the text alone.
+use mathlib.Core.Bool.{Bool, true, false, _&&_}
 use mathlib.Core.List.{List}
 use Prim.Native.Nat.{ℕ, zero, suc, _+_, _-_}
-use lib.Dec.{leb}
+use lib.Dec.{eqb, leb}
 use lib.ListN.{length, drop}
-use Rattle.sets.specs.Sets.{isEmpty, less, single, lowest}
+use Rattle.sets.specs.Sets.{isEmpty, member, less, single, lowest}
 use Rattle.numbers.specs.Codes.{done, noTerminal, unexpected, noGroup, allowanceUsedUp}
-use Rattle.pack.specs.Image.{layout, validSet, allButEndAndLayout, endOfText}
+use Rattle.pack.specs.Image.{layout, allButEndAndLayout, endOfText}
+use Rattle.conditions.specs.Conditions.{sought}
 use Rattle.scan.specs.Scan.{scan}
 use Rattle.scan.specs.Token.{terminalOf}
 use Rattle.look.specs.declared.Spot.{Spot}
 use Rattle.look.specs.declared.Sought.{Sought}
 use Rattle.look.specs.declared.Looked.{Looked}
 
--- Where the parse stands in the text is a spot: the place, whether layout is to be skipped there, the moves made.
--- After the moves of a scan; past so many bytes; with the layout skipped.
+-- Where the parse stands in the text is a spot: the place and the moves made.
+-- After the moves of a scan; past so many bytes.
 abbrev pub scanned : ℕ → Spot → Spot
-scanned n at = record { place = at .place; due = at .due; moves = at .moves + n }
+scanned n at = record { place = at .place; moves = at .moves + n }
 
-abbrev pub past : ℕ → Bool → Spot → Spot
-past size due at = record { place = at .place + size; due = due; moves = at .moves }
-
-abbrev pub settled : Spot → Spot
-settled at = record { place = at .place; due = false; moves = at .moves }
+abbrev pub past : ℕ → Spot → Spot
+past size at = record { place = at .place + size; moves = at .moves }
 
 -- One scan from the spot, within what is left of the allowance. This is the only place that scans.
 unfoldable pub seek : List ℕ → List ℕ → ℕ → ℕ → Spot → Sought
@@ -56,43 +54,37 @@ rescan img text allowance at =
 unfoldable pub choose : List ℕ → ℕ → ℕ → Spot → Looked
 choose img set size at = elim (terminalOf img set) [ zero ↦ refused noGroup size 0 at | suc t ↦ found size t at ]
 
--- The set that a token of state s is scanned for: the terminals that are valid in it, less the end of the text.
-abbrev pub tokenSet : List ℕ → ℕ → ℕ
-tokenSet img s = less (validSet img s) (single 0)
+-- The set that is scanned for in state s: the terminals that are valid in it, less the end of the text, and layout.
+abbrev pub soughtSet : List ℕ → ℕ → ℕ
+soughtSet img s = less (sought img s) (single 0)
 
--- The token of state s: the end of the text where the text ends; before it what a scan for the state's terminals matches, afresh each time.
-unfoldable pub token : List ℕ → List ℕ → ℕ → ℕ → Spot → Looked
-token img text allowance s at =
+-- What a scan in state s matches, layout or a token, afresh each time.
+unfoldable pub piece : List ℕ → List ℕ → ℕ → ℕ → Spot → Looked
+piece img text allowance s at =
+    let f = seek img text allowance (soughtSet img s) at in
+    elim (f .spent) [
+      | true ↦ refused allowanceUsedUp 0 0 (f .at)
+      | false ↦ elim (isEmpty (f .set)) [
+        | true ↦ rescan img text allowance (f .at)
+        | false ↦ choose img (f .set) (f .length) (f .at)
+      ]
+    ]
+
+-- It is a layout terminal.
+unfoldable pub isLayout : List ℕ → Looked → Bool
+isLayout img l = eqb (l .code) done && member (layout img) (l .terminal)
+
+-- At the end of the text nothing is scanned: there the token is the end of the text. Before it a layout terminal is skipped, and the scan is
+-- made again in the same state; what is matched otherwise is the token. The count is one of the bytes that are left, since each piece of
+-- layout takes at least one.
+unfoldable pub lookOn : List ℕ → List ℕ → ℕ → ℕ → ℕ → Spot → Looked
+lookOn img text allowance s zero at = found 0 endOfText at
+lookOn img text allowance s (suc left) at =
+    let l = piece img text allowance s at in
     elim (leb (length text) (at .place)) [
       | true ↦ found 0 endOfText at
-      | false ↦
-          let f = seek img text allowance (tokenSet img s) at in
-          elim (f .spent) [
-            | true ↦ refused allowanceUsedUp 0 0 (f .at)
-            | false ↦ elim (isEmpty (f .set)) [
-              | true ↦ rescan img text allowance (f .at)
-              | false ↦ choose img (f .set) (f .length) (f .at)
-            ]
-          ]
+      | false ↦ elim (isLayout img l) [ false ↦ l | true ↦ lookOn img text allowance s left (past (l .length) (l .at)) ]
     ]
 
--- Layout is skipped by scans for layout alone, piece after piece, until one matches nothing: what the last of these scans gave. The
--- count is one of the bytes that are left: a piece takes at least one, and where none is left the scan matches nothing.
-unfoldable pub skip : List ℕ → List ℕ → ℕ → ℕ → Spot → Sought
-skip img text allowance zero at = seek img text allowance (layout img) at
-skip img text allowance (suc left) at =
-    let f = seek img text allowance (layout img) at in
-    elim (f .spent) [
-      | true ↦ f
-      | false ↦ elim (isEmpty (f .set)) [ true ↦ f | false ↦ skip img text allowance left (past (f .length) (f .at .due) (f .at)) ]
-    ]
-
--- Layout, where it is due; then the token of state s.
 unfoldable pub look : List ℕ → List ℕ → ℕ → ℕ → Spot → Looked
-look img text allowance s at =
-    elim (at .due) [
-      | false ↦ token img text allowance s at
-      | true ↦
-          let f = skip img text allowance (length text - at .place) at in
-          elim (f .spent) [ true ↦ refused allowanceUsedUp 0 0 (f .at) | false ↦ token img text allowance s (settled (f .at)) ]
-    ]
+look img text allowance s at = lookOn img text allowance s (length text - at .place) at

@@ -1,8 +1,7 @@
 // Layout is skipped and the next token is found: all that the parse knows of the scan. Inner functions: their callers have tested the shape.
 use pack::image;
 ghost use mathlib.Core.Path.{_≡_};
-ghost use Prim.Native.Nat.{ℕ, _+_, _-_, _^_, _<_, _≤_};
-ghost use lib.ListN.{length};
+ghost use Prim.Native.Nat.{ℕ, _^_, _<_, _≤_};
 ghost use Rattle.numbers.specs.declared.Verdict.the-variants.{Good};
 ghost use Rattle.pack.specs.Image.{terminals, states};
 ghost use Rattle.pack.specs.Laid.{Laid};
@@ -11,12 +10,11 @@ ghost use Rattle.sets.specs.Sets.{lowest};
 ghost use Rattle.scan.specs.Ready.{Ready};
 ghost use Rattle.scan.specs.Token.{chosenOf, terminalOf};
 ghost use Rattle.look.specs.Inner.{Known, Within, Terms, SoughtWithin, LookedWithin};
-ghost use Rattle.look.specs.Look.{refused, settled, seek, rescan, choose, tokenSet, token, skip, look};
+ghost use Rattle.look.specs.Look.{refused, seek, rescan, choose, soughtSet, piece, isLayout, look};
 
-// Where the parse stands in the text: the place, whether layout is to be skipped there, and the moves made.
+// Where the parse stands in the text: the place and the moves made.
 pub struct Spot {
     pub place: usize,
-    pub due: bool,
     pub moves: usize,
 }
 
@@ -52,7 +50,6 @@ fn seek(img: &[u16], row: &[u8; 256], text: &[u8], allowance: usize, v: u64, at:
         length: stop.length,
         at: Spot {
             place,
-            due: at.due,
             moves: at.moves + stop.moves,
         },
     }
@@ -130,8 +127,8 @@ fn rescan(img: &[u16], row: &[u8; 256], text: &[u8], allowance: usize, at: Spot)
     ensures { λ r. ⌜ r ≡ rescan (now (img .entry)) (now (text .entry)) allowance at ⌝ }
     ensures { λ r. ⌜ LookedWithin (now (img .entry)) (now (text .entry)) allowance r ⌝ }
 {
-    let v = sets::less(scan::all_but_end(img), image::layout(img));
-    let f = seek(img, row, text, allowance, v, at);
+    let others = sets::less(scan::all_but_end(img), image::layout(img));
+    let f = seek(img, row, text, allowance, others, at);
     if f.spent {
         return refused(numbers::ALLOWANCE_USED_UP, 0, 0, f.at);
     }
@@ -141,45 +138,31 @@ fn rescan(img: &[u16], row: &[u8; 256], text: &[u8], allowance: usize, at: Spot)
     refused(numbers::UNEXPECTED, f.length, least(img, f.set), f.at)
 }
 
-// The set that a token of state s is scanned for: from the row of sets, where it stands, or found and put there.
-fn token_set(img: &[u16], known: &mut [u64; 128], s: usize) -> u64
+// The set that is scanned for in state s: from the row of sets, where it stands, or found and put there.
+fn sought_set(img: &[u16], known: &mut [u64; 128], s: usize) -> u64
     requires { ⌜ Laid (now img) ⌝ }
     requires { ⌜ Known (now img) (now known) ⌝ }
     requires { ⌜ s < states (now img) ⌝ }
-    ensures { λ r. ⌜ r ≡ tokenSet (now (img .entry)) s ⌝ }
+    ensures { λ r. ⌜ r ≡ soughtSet (now (img .entry)) s ⌝ }
     ensures { λ r. ⌜ Known (now (img .entry)) (now (known .exit)) ⌝ }
 {
     let found = known[s];
     if found != 0 {
         return found;
     }
-    let set = sets::less(image::valid_set(img, s), 1);
+    let set = sets::less(image::valid_set(img, s) | image::layout(img), 1);
     known[s] = set;
     set
 }
 
-// The token of state s, or the end of the text.
-fn token(
-    img: &[u16],
-    row: &[u8; 256],
-    text: &[u8],
-    known: &mut [u64; 128],
-    allowance: usize,
-    s: usize,
-    at: Spot,
-) -> Looked
+// One scan for the set of a state, and what it comes to: layout or a token, or a refusal.
+fn piece(img: &[u16], row: &[u8; 256], text: &[u8], allowance: usize, v: u64, at: Spot) -> Looked
     requires { ⌜ Ready (now img) (now row) ⌝ }
-    requires { ⌜ Known (now img) (now known) ⌝ }
-    requires { ⌜ s < states (now img) ⌝ }
     requires { ⌜ Within (now text) allowance at ⌝ }
-    ensures { λ r. ⌜ r ≡ token (now (img .entry)) (now (text .entry)) allowance s at ⌝ }
+    requires { ⌜ v < 2 ^ terminals (now img) ⌝ }
+    ensures { λ r. ⌜ ((s : ℕ) → v ≡ soughtSet (now (img .entry)) s → r ≡ piece (now (img .entry)) (now (text .entry)) allowance s at) ⌝ }
     ensures { λ r. ⌜ LookedWithin (now (img .entry)) (now (text .entry)) allowance r ⌝ }
-    ensures { λ r. ⌜ Known (now (img .entry)) (now (known .exit)) ⌝ }
 {
-    if text.len() <= at.place {
-        return refused(numbers::DONE, 0, 0, at);
-    }
-    let v = token_set(img, known, s);
     let f = seek(img, row, text, allowance, v, at);
     if f.spent {
         return refused(numbers::ALLOWANCE_USED_UP, 0, 0, f.at);
@@ -190,42 +173,18 @@ fn token(
     choose(img, f.set, f.length, f.at)
 }
 
-// Past the layout.
-fn skip(img: &[u16], row: &[u8; 256], text: &[u8], allowance: usize, at: Spot) -> Sought
-    requires { ⌜ Ready (now img) (now row) ⌝ }
-    requires { ⌜ Within (now text) allowance at ⌝ }
-    ensures { λ r. ⌜ r ≡ skip (now (img .entry)) (now (text .entry)) allowance (length (now (text .entry)) - at .place) at ⌝ }
-    ensures { λ r. ⌜ Within (now (text .entry)) allowance (r .at) ⌝ }
+// Whether it is a layout terminal.
+fn is_layout(img: &[u16], l: Looked) -> bool
+    requires { ⌜ Laid (now img) ⌝ }
+    ensures { λ r. ⌜ r ≡ isLayout (now (img .entry)) l ⌝ }
 {
-    let v = image::layout(img);
-    let mut here = at;
-    loop {
-        let f = seek(img, row, text, allowance, v, here);
-        if f.spent {
-            return f;
-        }
-        if f.set == 0 {
-            return f;
-        }
-        here = Spot {
-            place: f.at.place + f.length,
-            due: f.at.due,
-            moves: f.at.moves,
-        };
+    if l.code == numbers::DONE {
+        return sets::member(image::layout(img), l.terminal);
     }
+    false
 }
 
-fn settled(at: Spot) -> Spot
-    ensures { λ r. ⌜ r ≡ settled at ⌝ }
-{
-    Spot {
-        place: at.place,
-        due: false,
-        moves: at.moves,
-    }
-}
-
-// Past the layout, where it is due, to the token of state s.
+// Past the layout to the token of state s, or to the end of the text, where nothing is scanned.
 pub fn look(
     img: &[u16],
     row: &[u8; 256],
@@ -243,12 +202,21 @@ pub fn look(
     ensures { λ r. ⌜ LookedWithin (now (img .entry)) (now (text .entry)) allowance r ⌝ }
     ensures { λ r. ⌜ Known (now (img .entry)) (now (known .exit)) ⌝ }
 {
-    if at.due {
-        let f = skip(img, row, text, allowance, at);
-        if f.spent {
-            return refused(numbers::ALLOWANCE_USED_UP, 0, 0, f.at);
-        }
-        return token(img, row, text, known, allowance, s, settled(f.at));
+    if text.len() <= at.place {
+        return refused(numbers::DONE, 0, 0, at);
     }
-    token(img, row, text, known, allowance, s, at)
+    let v = sought_set(img, known, s);
+    let mut here = at;
+    while here.place < text.len() {
+        let l = piece(img, row, text, allowance, v, here);
+        if is_layout(img, l) {
+            here = Spot {
+                place: l.at.place + l.length,
+                moves: l.at.moves,
+            };
+        } else {
+            return l;
+        }
+    }
+    refused(numbers::DONE, 0, 0, here)
 }

@@ -17,7 +17,7 @@ use Rattle.pack.specs.Image.{states, act, actionOf, goto, lhs, len}
 use Rattle.look.specs.declared.Spot.{Spot}
 use Rattle.parse.specs.declared.act.Position.{Position}
 use Rattle.parse.specs.declared.act.Turned.{Turned}
-use Rattle.look.specs.Look.{past, settled}
+use Rattle.look.specs.Look.{past}
 use Rattle.parse.specs.Parse.{Standing, Ending, Step, ends, goes, ending, top, wrote, shiftTo, reduceBy, accept, perform}
 use Rattle.parse.specs.Inner.{Stacked, Roomy, Kept, Turn, stops, turns, standing, full, bounded, told, put4}
 
@@ -191,16 +191,16 @@ module _ (img stack tree : List ℕ) (room : ℕ) (from : Position) (k : Stacked
     pub shift-goes : {a b c d v : ℕ} {stack′ tree′ : List ℕ} {r : Turned} → from .records < room → from .height < 512 → v ≡ s → s < states img
         → a ≡ terminal → b ≡ from .at .place → c ≡ size → d ≡ getD stack (512 - from .height) 0
         → stack′ ≡ set stack (511 - from .height) v → tree′ ≡ put4 tree (from .records * 4) a b c d
-        → r ≡ record { ends = false; code = 0; length = 0; terminal = 0; to = record { height = from .height + 1; records = from .records + 1; at = past size true (from .at) } }
+        → r ≡ record { ends = false; code = 0; length = 0; terminal = 0; to = record { height = from .height + 1; records = from .records + 1; at = past size (from .at) } }
         → (told stack′ tree′ r ≡ bounded (room - from .records) (shiftTo s size terminal (standing stack tree from))) × Kept img room tree from size stack′ tree′ r
     shift-goes {a} {b} {c} {d} {v} m l ev ls ea eb ec ed es et e =
         let lv : v < states img = omega arith in
         let eh : from .height + 0 ≡ from .height = omega arith in
-        let t = told-goes (from .height) 0 v a b c d (past size true (from .at)) eh l lv m es et e in (
+        let t = told-goes (from .height) 0 v a b c d (past size (from .at)) eh l lv m es et e in (
           t
               ∙ sym (goes-on _ _ (room - from .records) (λ z. omega arith) (omega (arith, next-held))
               ∙ rw (ev, ea, eb, ec, ed, top-at stack (k .size) (from .height) (k .most)) refl),
-          kept-goes (from .height) 0 v a b c d (past size true (from .at)) eh l lv m es et e size (omega arith) refl,
+          kept-goes (from .height) 0 v a b c d (past size (from .at)) eh l lv m es et e size (omega arith) refl,
         )
 
   -- Accept.
@@ -241,7 +241,7 @@ module _ (img stack tree : List ℕ) (room : ℕ) (from : Position) (k : Stacked
             record {
               stack = (to - 1) ∷ drop n (drop (512 - from .height) stack);
               words = take (from .records * 4) tree ++ ((64 + lh) ∷ p ∷ n ∷ u ∷ []);
-              at = settled (from .at);
+              at = from .at;
             }
 
         reduces : reduceBy img p (standing stack tree from) ≡ goes (standing stack tree from) next
@@ -264,14 +264,14 @@ module _ (img stack tree : List ℕ) (room : ℕ) (from : Position) (k : Stacked
         pub reduce-goes : {a b c v : ℕ} {stack′ tree′ : List ℕ} {r : Turned} → from .records < room → from .height - n < 512 → v ≡ to - 1 → to ≤ states img
             → a ≡ 64 + lh → b ≡ p → c ≡ n
             → stack′ ≡ set stack (511 - (from .height - n)) v → tree′ ≡ put4 tree (from .records * 4) a b c u
-            → r ≡ record { ends = false; code = 0; length = 0; terminal = 0; to = record { height = from .height - n + 1; records = from .records + 1; at = settled (from .at) } }
+            → r ≡ record { ends = false; code = 0; length = 0; terminal = 0; to = record { height = from .height - n + 1; records = from .records + 1; at = from .at } }
             → (told stack′ tree′ r ≡ bounded (room - from .records) (reduceBy img p (standing stack tree from))) × Kept img room tree from 0 stack′ tree′ r
         reduce-goes {a} {b} {c} {v} m f ev ls ea eb ec es et e =
             let lv : v < states img = omega arith in
             let eh : from .height - n + n ≡ from .height = omega arith in
-            let t = told-goes (from .height - n) n v a b c u (settled (from .at)) eh f lv m es et e in (
+            let t = told-goes (from .height - n) n v a b c u (from .at) eh f lv m es et e in (
               t ∙ rw (ev, ea, eb, ec) (sym (rw reduces (goes-on _ _ (room - from .records) (λ z. omega arith) (omega (arith, next-high))))),
-              kept-goes (from .height - n) n v a b c u (settled (from .at)) eh f lv m es et e 0 (omega arith) refl,
+              kept-goes (from .height - n) n v a b c u (from .at) eh f lv m es et e 0 (omega arith) refl,
             )
 
   -- What the cell says, by its action.

@@ -169,7 +169,7 @@ zeros (suc n) zero = refl
 zeros (suc n) (suc i) = zeros n i
 
 pub turning-starts : (img text tree : List ℕ) (allowance room : ℕ) → Laid img → room ≡ roomOf tree
-    → Turning img text tree allowance room (replicate 512 0) (replicate 128 0) tree (record { height = 1; records = 0; at = record { place = 0; due = true; moves = 0 } })
+    → Turning img text tree allowance room (replicate 512 0) (replicate 128 0) tree (record { height = 1; records = 0; at = record { place = 0; moves = 0 } })
 turning-starts img text tree allowance room laid e =
     record {
       stacked = record { some = omega arith; most = omega arith; size = length-replicate {A = ℕ} 512 0; each = λ i. rw (zeros 512 i) (laid .sized .s-least) };

@@ -13,7 +13,7 @@ use Rattle.numbers.specs.declared.Verdict.the-variants.{Good, Wrong}
 use Rattle.shape.specs.Shape.{shape}
 use Rattle.look.specs.declared.Spot.{Spot}
 use Rattle.look.specs.declared.Looked.{Looked}
-use Rattle.look.specs.Look.{past, settled, look}
+use Rattle.look.specs.Look.{past, look}
 use Rattle.parse.specs.declared.Parsed.{Parsed}
 
 -- A record is four words: of a leaf the terminal, its start, its length and the state that shifted it; of a node 64 more than lhs, the
@@ -37,9 +37,9 @@ pub record Standing : Type 0 where
 abbrev pub top : List ℕ → ℕ
 top stack = getD stack 0 0
 
--- The stack begins with state 0, and layout is due before the first token.
+-- The stack begins with state 0.
 abbrev pub start : Standing
-start = record { stack = 0 ∷ []; words = []; at = record { place = 0; due = true; moves = 0 } }
+start = record { stack = 0 ∷ []; words = []; at = record { place = 0; moves = 0 } }
 
 -- How a parse ends: the numbers given back, and the words of its records.
 pub record Ending : Type 0 where
@@ -63,9 +63,9 @@ pub data Step : Type 0 where
 abbrev pub wrote : List ℕ → List ℕ → Spot → Standing → Standing
 wrote record-words stack at here = record { stack = stack; words = here .words ++ record-words; at = at }
 
--- Shift: a leaf is written and the state pushed. Layout is due after it.
+-- Shift: a leaf is written and the state pushed.
 abbrev pub shiftTo : ℕ → ℕ → ℕ → Standing → Step
-shiftTo s size terminal here = goes here (wrote (leafRecord terminal (here .at .place) size (top (here .stack))) (s ∷ here .stack) (past size true (here .at)) here)
+shiftTo s size terminal here = goes here (wrote (leafRecord terminal (here .at .place) size (top (here .stack))) (s ∷ here .stack) (past size (here .at)) here)
 
 -- Reduce by p: as many states as its length are dropped, a node is written, and the goto of the uncovered state on lhs is pushed. The
 -- parse is stuck where there are too few states, or no goto.
@@ -76,7 +76,7 @@ reduceBy img p here =
       | false ↦ ends (ending stuck 0 0 here)
       | true ↦ elim (goto img (top rest) (lhs img p)) [
         | zero ↦ ends (ending stuck 0 0 here)
-        | suc s ↦ goes here (wrote (nodeRecord img p (top rest)) (s ∷ rest) (settled (here .at)) here)
+        | suc s ↦ goes here (wrote (nodeRecord img p (top rest)) (s ∷ rest) (here .at) here)
       ]
     ]
 

@@ -137,7 +137,6 @@ fn shift(
         n + 1,
         Spot {
             place: from.at.place + length,
-            due: true,
             moves: from.at.moves,
         },
     )
@@ -185,15 +184,7 @@ fn reduce(
         uncovered,
     );
     stack[numbers::MOST_STATES - 1 - h] = narrow(to - 1);
-    going(
-        h + 1,
-        n + 1,
-        Spot {
-            place: from.at.place,
-            due: false,
-            moves: from.at.moves,
-        },
-    )
+    going(h + 1, n + 1, from.at)
 }
 
 // Accept, where the stack holds exactly two states.

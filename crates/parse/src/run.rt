@@ -97,11 +97,7 @@ pub fn run(img: &[u16], text: &[u8], tree: &mut [u16], allowance: u32) -> Parsed
     let mut at = Position {
         height: 1,
         records: 0,
-        at: Spot {
-            place: 0,
-            due: true,
-            moves: 0,
-        },
+        at: Spot { place: 0, moves: 0 },
     };
     loop {
         let t = turn(

@@ -11,7 +11,6 @@ use lib.Seq.{take-at}
 use borrow.Author.Tests.{ltb-true, ltb-false}
 use Rattle.numbers.specs.Codes.{done, noTerminal, noGroup, stuck, longestText, queryTooLong}
 use Rattle.conditions.specs.declared.Checked.{Checked}
-use Rattle.conditions.specs.Conditions.{Passes}
 use Rattle.conditions.specs.Check.{passed, check}
 use Rattle.conditions.proofs.Answers.{checked-passes}
 use Rattle.parse.specs.declared.Parsed.{Parsed}

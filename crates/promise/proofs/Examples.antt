@@ -3,18 +3,18 @@
 -- Assumes nothing.
 use mathlib.Core.Path.{_≡_, refl}
 use mathlib.Core.List.{List, [], _∷_}
-use Prim.Native.Nat.{ℕ, zero, suc, _≤_}
+use Prim.Native.Nat.{ℕ, zero, suc}
 use native.Mathlib.Omega.{arith}
-use Rattle.sets.specs.Sets.{has, meet}
+use Rattle.sets.specs.Sets.{has}
 use Rattle.sets.proofs.Laws.{has-none, has-suc}
 use Rattle.text.specs.Bytes.{bytes}
 use Rattle.pack.specs.Image.{setAt, layout, dom, lhs, len, symbol, symbolsFrom, act, goto, move, acc, rej, lo, hi, rangeClass, classIn, validFrom, startSymbol}
-use Rattle.scan.specs.Matching.{ledFrom, Matches, Last}
+use Rattle.scan.specs.Matching.{ledFrom, Matches}
 use Rattle.parse.specs.Leaf.{part}
 use Rattle.parse.specs.Parse.{parse}
 use Rattle.promise.specs.SmallPack.{small}
 use Rattle.promise.specs.Derivation.{Trees, none, leaf, node}
-use Rattle.promise.specs.Cover.{Settled, RightLeaf}
+use Rattle.promise.specs.Cover.{RightLeaf}
 use Rattle.promise.specs.Refusal.{Outdone}
 use Rattle.promise.specs.Promised.{Promised, Halts}
 use Rattle.promise.specs.Way.{begin}
@@ -34,39 +34,36 @@ tax-by-day =
 
 -- The letter's `grou`: after `b` alone, reading on, the name is rejected at `by`.
 pub no-b-in-by : RightLeaf small (bytes "by") 2 0 1 0 → ⊥
-unfolding small setAt move lo hi rangeClass classIn acc rej act validFrom ledFrom
-no-b-in-by r = let z : _≡_ {A = ℕ} 4 0 = r .last .after 2 2 (omega arith) (omega arith) (record { way = refl }) in omega arith
+unfolding small setAt layout move lo hi rangeClass classIn acc rej act validFrom ledFrom
+no-b-in-by r = let z : _≡_ {A = ℕ} 4 0 = r .right .last .after 2 2 (omega arith) (omega arith) (record { way = refl }) in omega arith
 
--- `by` at the start is the letter's case: the name, which state 0 allows, is outranked by the keyword, which it does not.
+-- `by` at the start is the letter's case: of what state 0 looks for, names and blanks, the name is outranked by the keyword, which it does
+-- not allow, and blanks do not match there.
 pub by-outdone : Outdone small (bytes "by") 0 0
-unfolding small setAt move lo hi rangeClass classIn dom acc rej act validFrom ledFrom has
+unfolding small setAt layout move lo hi rangeClass classIn dom acc rej act validFrom ledFrom has
 by-outdone =
     record {
       size = 2;
       q = 2;
       last = record { within = omega arith; leads = record { way = refl }; here = λ z. omega arith; after = λ m p h w f. absurd (omega arith) };
-      by = λ t v m. only t v;
+      by = λ t v m. only t v m;
     }
   where
     keyword : (u : ℕ) × (has (dom small 2) u ≡ 1) × Matches small (part (bytes "by") 0 2) u
     keyword = (1, refl, record { state = 2; leads = record { way = refl }; here = refl })
 
-    only : (t : ℕ) → has 4 t ≡ 1 → (u : ℕ) × (has (dom small t) u ≡ 1) × Matches small (part (bytes "by") 0 2) u
-    only zero v = absurd (omega arith)
-    only (suc zero) v = absurd (omega arith)
-    only (suc (suc zero)) v = keyword
-    only (suc (suc (suc t))) v = absurd (omega (arith, v, has-suc 4 (suc (suc t)), has-suc 2 (suc t), has-suc 1 t, has-none t))
+    no-blanks : Matches small (part (bytes "by") 0 2) 3 → ⊥
+    no-blanks m = let y : 3 ≡ suc (m .state) = m .leads .way in let z : m .state ≡ 2 = omega arith in let f : _≡_ {A = ℕ} 0 1 = rw z at (m .here) in omega arith
+
+    only : (t : ℕ) → has 12 t ≡ 1 → Matches small (part (bytes "by") 0 2) t
+        → (u : ℕ) × (has (dom small t) u ≡ 1) × Matches small (part (bytes "by") 0 2) u
+    only zero v m = absurd (omega arith)
+    only (suc zero) v m = absurd (omega arith)
+    only (suc (suc zero)) v m = keyword
+    only (suc (suc (suc zero))) v m = absurd (no-blanks m)
+    only (suc (suc (suc (suc t)))) v m =
+        absurd (omega (arith, v, has-suc 12 (suc (suc (suc t))), has-suc 6 (suc (suc t)), has-suc 3 (suc t), has-suc 1 t, has-none t))
 
 -- So a parse of `by` gets no further than its start, whatever the room and the allowance.
-by-settled : Settled small (bytes "by") 0
-unfolding small setAt layout move lo hi rangeClass classIn acc rej ledFrom
-by-settled = record { only-rejects = λ n q l. go n q l }
-  where
-    go : (n q : ℕ) → Last small (bytes "by") (layout small) n q → meet (acc small q) (layout small) ≡ 0
-    go zero q l = let y : 1 ≡ suc q = l .leads .way in let z : q ≡ 0 = omega arith in rw z refl
-    go (suc zero) q l = let y : 2 ≡ suc q = l .leads .way in let z : q ≡ 1 = omega arith in rw z refl
-    go (suc (suc zero)) q l = let y : 3 ≡ suc q = l .leads .way in let z : q ≡ 2 = omega arith in rw z refl
-    go (suc (suc (suc n))) q l = let w : suc (suc (suc n)) ≤ 2 = l .within in absurd (omega arith)
-
 pub by-halts : (tree : List ℕ) (allowance : ℕ) → Halts [] 0 (parse small (bytes "by") tree allowance)
-by-halts tree allowance = halts small small-passes (bytes "by") begin by-settled by-outdone (small-promised (bytes "by") tree allowance)
+by-halts tree allowance = halts small small-passes (bytes "by") begin by-outdone (small-promised (bytes "by") tree allowance)

@@ -1,5 +1,5 @@
--- What a scan of the parse gives, for a pack that passes K1 to K3: a match for a parse state stands for one terminal, whose leaf is right; a
--- match of layout is a piece of the cover; and where there is none, why. Assumes nothing.
+-- What a scan of the parse gives, for a pack that passes K1 to K3: a match for a parse state stands for one terminal, which is a right leaf or
+-- a piece of layout; and where there is none, why. Assumes nothing.
 use mathlib.Core.Path.{_≡_, refl, sym, _∙_}
 use mathlib.Core.Bool.{Bool, true, false}
 use mathlib.Core.List.{List}
@@ -11,24 +11,23 @@ use lib.Pow.{pow-mono}
 use lib.Bits.{bitAnd, and-le-l}
 use borrow.Author.Tests.{eqb-true, eqb-false, leb-false, ltb-true, ltb-false}
 use Rattle.sets.specs.Sets.{has, meet, several, lowest, count}
-use Rattle.sets.proofs.Laws.{has-lt, has-above, has-and, lowest-lt, lowest-in, lowest-below, at-most-one}
+use Rattle.sets.proofs.Laws.{has-lt, has-and, has-or, lowest-lt, lowest-in, lowest-below, at-most-one}
 use Rattle.pack.specs.Image.{terminals, states, scanStates, groups, layout, acc, groupSet, chosen, validSet, allButEndAndLayout}
-use Rattle.pack.proofs.Valid.{valid-cell}
 use Rattle.shape.proofs.Good.{good-laid, good-acc}
 use Rattle.shape.proofs.GoodParser.{good-group}
-use Rattle.conditions.specs.Conditions.{Passes}
+use Rattle.conditions.specs.Conditions.{Passes, sought}
 use Rattle.scan.specs.declared.Stop.{Stop}
 use Rattle.scan.specs.Scan.{scan}
 use Rattle.scan.specs.Token.{chosenIn, terminalOf}
 use Rattle.scan.specs.Matching.{Accepts, Last}
 use Rattle.scan.proofs.Matching.{same-state, led, some-bytes}
 use Rattle.scan.proofs.Longest.{match-is-last, no-match-rejects, accepted-alone}
-use Rattle.look.specs.Look.{tokenSet}
+use Rattle.look.specs.Look.{soughtSet}
 use Rattle.parse.specs.Leaf.{part}
-use Rattle.promise.specs.Cover.{Chosen, alone, grouped, NoMatch, Settled, RightLeaf, Blank}
+use Rattle.promise.specs.Cover.{Chosen, alone, grouped, NoMatch, RightMatch, RightLeaf, Blank}
 use Rattle.promise.specs.Refusal.{Unexpected, instead}
-use Rattle.promise.proofs.Matching.{same-accepted, with-end, without-end}
-use Rattle.promise.proofs.Others.{not-layout, not-valid}
+use Rattle.promise.proofs.Matching.{has-below, same-accepted, with-end, without-end}
+use Rattle.promise.proofs.Others.{outdone-further}
 
 -- The first group of a set, or none.
 module _ (img : List ℕ) (set : ℕ) where
@@ -56,29 +55,22 @@ module _ (img : List ℕ) (passes : Passes img) where
       let l : terminals img ≤ 64 = omega (arith, good-laid img (passes .good)) in
       omega (arith, and-le-l (acc img q) v, good-acc img (passes .good) q lq .0, pow-mono l)
 
-  -- What is accepted of V(s) in a scan state stands for one terminal, which is in it.
+  -- What is accepted of V(s) and layout in a scan state stands for one terminal, which is in it.
   record Named (set : ℕ) : Type 0 where
     terminal : ℕ
     name : terminalOf img set ≡ suc terminal
     inside : has set terminal ≡ 1
     one : Chosen img set terminal
 
-  named : (s q : ℕ) → s < states img → q < scanStates img → (meet (acc img q) (validSet img s) ≡ 0 → ⊥) → Named (meet (acc img q) (validSet img s))
+  named : (s q : ℕ) → s < states img → q < scanStates img → (meet (acc img q) (sought img s) ≡ 0 → ⊥) → Named (meet (acc img q) (sought img s))
   unfolding terminalOf several
   named s q ls lq ne = go (leb 2 (count set)) refl
     where
       set : ℕ
-      set = meet (acc img q) (validSet img s)
+      set = meet (acc img q) (sought img s)
 
       small : set < 2 ^ 64
-      small = accepts-below q (validSet img s) lq
-
-      member-below : (t : ℕ) → has set t ≡ 1 → t < 64
-      member-below t h = below (ltb t 64) refl
-        where
-          below : (x : Bool) → ltb t 64 ≡ x → t < 64
-          below true e = ltb-true _ _ e
-          below false e = absurd (omega (arith, has-above t small (ltb-false _ _ e)))
+      small = accepts-below q (sought img s) lq
 
       go : (x : Bool) → leb 2 (count set) ≡ x → Named set
       go false e =
@@ -88,7 +80,7 @@ module _ (img : List ℕ) (passes : Passes img) where
             terminal = lowest set;
             name = simp (terminalOf, several, e);
             inside = h;
-            one = alone (λ t k. at-most-one 64 set t (lowest set) (omega (arith, leb-false 2 (count set) e)) (member-below t k) l k h);
+            one = alone (λ t k. at-most-one 64 set t (lowest set) (omega (arith, leb-false 2 (count set) e)) (has-below t small k) l k h);
           }
       go true e = group (passes .k3 s q ls lq .grouped e) (find img set (groups img) 0)
         where
@@ -150,26 +142,19 @@ module _ (img : List ℕ) (passes : Passes img) where
               below u h false e = ltb-false _ _ e
 
   module _ (text : List ℕ) (allowance place : ℕ) where
-    -- A match of the layout scan.
-    pub blanked : scan img (layout img) allowance (drop place text) .spent ≡ false → (scan img (layout img) allowance (drop place text) .set ≡ 0 → ⊥)
-        → Blank img text place (scan img (layout img) allowance (drop place text) .length)
-    blanked e ne =
-        let m = matches text allowance place (layout img) e ne in
-        record { q = m .q; last = m .last; some = some-bytes (passes .good) (m .last); terminal = _; is-layout = m .inside; accepted = m .accepted }
-
-    -- A match of the token scan: never code 9, and the leaf is right.
+    -- A match of a scan in state s: never code 9, and it is right.
     pub record Taken (s : ℕ) (stop : Stop) : Type 0 where
       pub terminal : ℕ
       pub name : terminalOf img (stop .set) ≡ suc terminal
-      pub right : RightLeaf img text terminal place (stop .length) s
+      pub right : RightMatch img text terminal place (stop .length) s
 
-    pub taken : (s : ℕ) → s < states img → Settled img text place → scan img (tokenSet img s) allowance (drop place text) .spent ≡ false
-        → (scan img (tokenSet img s) allowance (drop place text) .set ≡ 0 → ⊥)
-        → Taken s (scan img (tokenSet img s) allowance (drop place text))
-    taken s ls settled e ne = answer (named s q ls lq (λ z. ne (same ∙ z)))
+    pub taken : (s : ℕ) → s < states img → scan img (soughtSet img s) allowance (drop place text) .spent ≡ false
+        → (scan img (soughtSet img s) allowance (drop place text) .set ≡ 0 → ⊥)
+        → Taken s (scan img (soughtSet img s) allowance (drop place text))
+    taken s ls e ne = answer (named s q ls lq (λ z. ne (same ∙ z)))
       where
-        m : Lowest text allowance place (tokenSet img s) e
-        m = matches text allowance place (tokenSet img s) e ne
+        m : Lowest text allowance place (soughtSet img s) e
+        m = matches text allowance place (soughtSet img s) e ne
 
         q : ℕ
         q = m .q
@@ -177,51 +162,61 @@ module _ (img : List ℕ) (passes : Passes img) where
         lq : q < scanStates img
         lq = led img (passes .good) (m .last .leads)
 
-        same : scan img (tokenSet img s) allowance (drop place text) .set ≡ meet (acc img q) (validSet img s)
-        same = m .all ∙ same-accepted img (passes .good) q (validSet img s) lq
+        same : scan img (soughtSet img s) allowance (drop place text) .set ≡ meet (acc img q) (sought img s)
+        same = m .all ∙ same-accepted img (passes .good) q (sought img s) lq
 
-        answer : Named (meet (acc img q) (validSet img s)) → Taken s (scan img (tokenSet img s) allowance (drop place text))
+        answer : Named (meet (acc img q) (sought img s)) → Taken s (scan img (soughtSet img s) allowance (drop place text))
         answer n =
             let t = n .terminal in
-            let a : has (acc img q) t ≡ 1 = omega (arith, n .inside, has-and (acc img q) (validSet img s) t, has-lt (acc img q) t, has-lt (validSet img s) t) in
-            let v : has (validSet img s) t ≡ 1 = omega (arith, n .inside, has-and (acc img q) (validSet img s) t, has-lt (acc img q) t, has-lt (validSet img s) t) in
-            let c = valid-cell img s t v in
+            let a : has (acc img q) t ≡ 1 = omega (arith, n .inside, has-and (acc img q) (sought img s) t, has-lt (acc img q) t, has-lt (sought img s) t) in
             record {
               terminal = t;
               name = rw same (n .name);
               right = record {
                 is-state = ls;
-                after-layout = settled;
                 some = some-bytes (passes .good) (m .last);
-                not-end = λ z. let b = rw z at a in omega (arith, b, good-acc img (passes .good) q lq .1);
-                not-layout = not-layout img (passes .good) s t ls (c .0) (c .1);
                 q = q;
                 last = with-end img (passes .good) (m .last);
-                valid = v;
+                is-sought = omega (arith, n .inside, has-and (acc img q) (sought img s) t, has-lt (acc img q) t, has-lt (sought img s) t);
                 accepted = record { state = q; leads = m .last .leads; here = a };
                 not-outranked = λ u d k.
-                    accepted-alone img (passes .good) q lq (passes .k1 q lq) t u (c .0) a d
+                    accepted-alone img (passes .good) q lq (passes .k1 q lq) t u (has-below t (good-acc img (passes .good) q lq .0) a) a d
                     (rw (same-state (k .leads) (m .last .leads)) at (k .here));
                 one = n .one;
               };
             }
 
-    -- The token scan without a match.
-    pub none-valid : (s : ℕ) → scan img (tokenSet img s) allowance (drop place text) .spent ≡ false
-        → scan img (tokenSet img s) allowance (drop place text) .set ≡ 0 → NoMatch img (drop place text) (validSet img s)
-    none-valid s e z =
+    -- What is right is layout, or else a leaf.
+    pub a-blank : {t size s : ℕ} → RightMatch img text t place size s → has (layout img) t ≡ 1 → Blank img text s place size
+    a-blank {t} r h = record { terminal = t; right = r; is-layout = h }
+
+    pub a-leaf : {t size s : ℕ} → RightMatch img text t place size s → has (layout img) t ≡ 0 → RightLeaf img text t place size s
+    a-leaf {t} {size} {s} r h =
+        record {
+          right = r;
+          valid = omega (arith, h, r .is-sought, has-or (validSet img s) (layout img) t);
+          not-end = λ z.
+              let b = rw z at (r .accepted .here) in
+              omega (arith, b, good-acc img (passes .good) _ (led img (passes .good) (r .accepted .leads)) .1);
+          not-layout = h;
+        }
+
+    -- The scan without a match.
+    pub none-sought : (s : ℕ) → scan img (soughtSet img s) allowance (drop place text) .spent ≡ false
+        → scan img (soughtSet img s) allowance (drop place text) .set ≡ 0 → NoMatch img (drop place text) (sought img s)
+    none-sought s e z =
         record {
           only-rejects = λ n q l.
-              sym (same-accepted img (passes .good) q (validSet img s) (led img (passes .good) (l .leads)))
-              ∙ no-match text allowance place (tokenSet img s) e z .only-rejects n q (without-end img (passes .good) l);
+              sym (same-accepted img (passes .good) q (sought img s) (led img (passes .good) (l .leads)))
+              ∙ no-match text allowance place (soughtSet img s) e z .only-rejects n q (without-end img (passes .good) l);
         }
 
     -- A match of the second scan, where the first had none.
-    pub other : (s : ℕ) → s < states img → place < length text → Settled img text place → NoMatch img (drop place text) (validSet img s)
+    pub other : (s : ℕ) → place < length text → NoMatch img (drop place text) (sought img s)
         → (e : scan img (allButEndAndLayout img) allowance (drop place text) .spent ≡ false)
         → (scan img (allButEndAndLayout img) allowance (drop place text) .set ≡ 0 → ⊥)
         → Unexpected img text s place (scan img (allButEndAndLayout img) allowance (drop place text) .length) (lowest (scan img (allButEndAndLayout img) allowance (drop place text) .set))
-    other s ls l settled none e ne =
+    other s l none e ne =
         let m = matches text allowance place (allButEndAndLayout img) e ne in
         let a = rw (same-state (m .accepted .leads) (m .last .leads)) at (m .accepted .here) in
-        instead _ _ (m .q) l settled none (m .last) (not-valid img (passes .good) s ls (m .last) _ none a) (m .inside) (m .accepted) (m .least)
+        instead _ _ (m .q) l none (m .last) (λ v. outdone-further img passes text s place none _ (m .last .within) (m .last .leads) a v) (m .inside) (m .accepted) (m .least)

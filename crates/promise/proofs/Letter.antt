@@ -1,6 +1,6 @@
--- The letter's case, for all packs that pass: `group` is never read as the names `grou` and `p`. A leaf does not end before a place where,
--- reading on, a terminal valid in its state is accepted or rejected; so where the longest name is outranked by a keyword, allowed or not, no
--- leaf begins, and the parse is refused there. Assumes nothing.
+-- The letter's case, for all packs that pass: `group` is never read as the names `grou` and `p`. Neither a leaf nor a piece of layout ends
+-- before a place where, reading on, a terminal valid in its state, or layout, is accepted or rejected; so where the longest name is outranked by a
+-- keyword, allowed or not, none begins, and the parse is refused there. Assumes nothing.
 use mathlib.Core.Path.{_≡_, refl, sym, ap, _∙_}
 use mathlib.Core.Bool.{Bool, true, false}
 use mathlib.Core.Logic.{_⊎_, inl, inr}
@@ -12,33 +12,33 @@ use lib.ListN.{length, drop}
 use borrow.Author.Tests.{ltb-true, ltb-false}
 use Rattle.sets.specs.Sets.{has}
 use Rattle.sets.proofs.Laws.{has-lt, has-none, has-and, has-or}
-use Rattle.pack.specs.Image.{acc, rej, validSet, dom, firstNonterminal}
-use Rattle.conditions.specs.Conditions.{Passes, matched}
+use Rattle.pack.specs.Image.{acc, rej, dom, firstNonterminal}
+use Rattle.conditions.specs.Conditions.{Passes, matched, sought}
 use Rattle.scan.specs.Matching.{Matches}
 use Rattle.parse.specs.Leaf.{part}
 use Rattle.parse.specs.Parse.{Ending, recordWords}
-use Rattle.promise.specs.Cover.{Settled, RightLeaf, Covers}
+use Rattle.promise.specs.Cover.{RightMatch, Covers}
 use Rattle.promise.specs.Refusal.{Outdone}
 use Rattle.promise.specs.Promised.{Accepted, Refused, Promised, Halts}
 use Rattle.promise.specs.Way.{word, end-of-text, Reached, reached, Acts, skips, shifts, reduces, Way}
 use Rattle.scan.proofs.Matching.{one-last}
-use Rattle.promise.proofs.Ways.{Onward, Stops, Further, further, no-blank, no-bytes, along, one-end, one-way, accepts-stops, none-stops, other-stops}
+use Rattle.promise.proofs.Ways.{Onward, Stops, Further, further, no-bytes, along, one-end, one-way, accepts-stops, none-stops, other-stops}
 use Rattle.promise.proofs.Records.{wordOf, every-leaf}
 
--- A leaf ends at no earlier place than one where a terminal valid in its state matches.
-pub no-shorter : {img text : List ℕ} {terminal start size s : ℕ} → RightLeaf img text terminal start size s → (m t : ℕ) → m ≤ length (drop start text)
-    → has (validSet img s) t ≡ 1 → Matches img (part text start m) t → m ≤ size
+-- What is right ends at no earlier place than one where a terminal valid in its state, or layout, matches.
+pub no-shorter : {img text : List ℕ} {terminal start size s : ℕ} → RightMatch img text terminal start size s → (m t : ℕ) → m ≤ length (drop start text)
+    → has (sought img s) t ≡ 1 → Matches img (part text start m) t → m ≤ size
 no-shorter {img = img} {size = size} {s = s} r m t l v k = go (ltb size m) refl
   where
     go : (x : Bool) → ltb size m ≡ x → m ≤ size
     go false e = ltb-false _ _ e
     go true e =
         let z = ap (λ (x : ℕ). has x t) (r .last .after m (k .state) (ltb-true _ _ e) l (k .leads)) in
-        absurd (omega (arith, z, has-none t, has-and (matched img (k .state)) (validSet img s) t, k .here, v))
+        absurd (omega (arith, z, has-none t, has-and (matched img (k .state)) (sought img s) t, k .here, v))
 
--- Where the last match of a state is outdone, no leaf begins in that state.
-pub no-leaf-there : {img text : List ℕ} {s start : ℕ} → Outdone img text s start → (terminal size : ℕ) → RightLeaf img text terminal start size s → ⊥
-no-leaf-there {img} {text} {s} {start} o terminal size r = at-last (o .size) (one-last (r .last) (o .last)) (o .by)
+-- Where the last match of a state is outdone, nothing is right in that state.
+pub none-there : {img text : List ℕ} {s start : ℕ} → Outdone img text s start → (terminal size : ℕ) → RightMatch img text terminal start size s → ⊥
+none-there {img} {text} {s} {start} o terminal size r = at-last (o .size) (one-last (r .last) (o .last)) (o .by)
   where
     q : ℕ
     q = r .accepted .state
@@ -51,20 +51,20 @@ no-leaf-there {img} {text} {s} {start} o terminal size r = at-last (o .size) (on
     }
 
     at-last : (n : ℕ) → size ≡ n
-        → ((t : ℕ) → has (validSet img s) t ≡ 1 → Matches img (part text start n) t → (u : ℕ) × (has (dom img t) u ≡ 1) × Matches img (part text start n) u) → ⊥
-    at-last n z by = let b = (rw (← z) at by) terminal (r .valid) matches in r .not-outranked (b .0) (b .1) (b .2)
+        → ((t : ℕ) → has (sought img s) t ≡ 1 → Matches img (part text start n) t → (u : ℕ) × (has (dom img t) u ≡ 1) × Matches img (part text start n) u) → ⊥
+    at-last n z by = let b = (rw (← z) at by) terminal (r .is-sought) matches in r .not-outranked (b .0) (b .1) (b .2)
 
 -- So the tables have no step there, and a parse gets no further, whatever its room and allowance: where these allow it to come there, it is
 -- refused there with 7 or 8.
 module _ (img : List ℕ) (passes : Passes img) (text : List ℕ) {s place : ℕ} {below words : List ℕ} (way : Way img text (reached (s ∷ below) words place))
-    (settled : Settled img text place) (outdone : Outdone img text s place) where
+    (outdone : Outdone img text s place) where
   stops : Stops img text (reached (s ∷ below) words place)
   stops = record { no-step = λ b x. go x }
     where
       go : {b : Reached} → Acts img text (reached (s ∷ below) words place) b → ⊥
-      go (skips n x) = no-blank img (passes .good) text settled x
-      go (shifts t n v r f) = no-leaf-there outdone t n r
-      go (reduces t p v (word n r) f k g) = no-leaf-there outdone t n r
+      go (skips n x) = none-there outdone (x .terminal) n (x .right)
+      go (shifts t n v r f) = none-there outdone t n (r .right)
+      go (reduces t p v (word n r) f k g) = none-there outdone t n (r .right)
       go (reduces t p v (end-of-text l) f k g) = no-bytes img (passes .good) text l (outdone .last)
 
   pub halts : {e : Ending} → Promised img text e → Halts words place e
@@ -113,4 +113,4 @@ module _ (img : List ℕ) (passes : Passes img) (text : List ℕ) {s place : ℕ
 -- .. and no record is a leaf from there on that was shifted in that state.
 pub no-record-there : {img text words : List ℕ} {place s start : ℕ} → Outdone img text s start → Covers img text words place → (i : ℕ) → i * recordWords < length words
     → wordOf words i 0 < firstNonterminal → wordOf words i 1 ≡ start → wordOf words i 3 ≡ s → ⊥
-no-record-there o c i l h a b = no-leaf-there o _ _ (rw (a, b) at (every-leaf c i l h))
+no-record-there o c i l h a b = none-there o _ _ (rw (a, b) at (every-leaf c i l h) .right)

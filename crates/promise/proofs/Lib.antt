@@ -11,8 +11,11 @@ pub mod Others
 pub mod Passing
 pub mod Promised
 pub mod Records
+pub mod Ring
+pub mod Slashes
 pub mod Stack
 pub mod Steps
+pub mod Together
 pub mod Unique
 pub mod Ways
 pub mod WrongLooks

@@ -5,142 +5,106 @@ use mathlib.Core.List.{List}
 use Prim.Native.Nat.{ℕ, zero, suc, _+_, _-_, _<_, _≤_}
 use native.Mathlib.Omega.{arith}
 use lib.Dec.{eqb, leb}
-use lib.ListN.{length, drop, length-drop}
+use lib.ListN.{length, drop}
 use borrow.Author.Tests.{eqb-true, eqb-false, leb-true, leb-false}
-use Rattle.sets.specs.Sets.{isEmpty}
-use Rattle.numbers.specs.Codes.{done}
-use Rattle.pack.specs.Image.{states, layout, validSet, allButEndAndLayout}
-use Rattle.conditions.specs.Conditions.{Passes}
+use Rattle.sets.specs.Sets.{has, member, isEmpty}
+use Rattle.sets.proofs.Laws.{has-lt}
+use Rattle.pack.specs.Image.{states, layout, allButEndAndLayout}
+use Rattle.conditions.specs.Conditions.{Passes, sought}
 use Rattle.scan.specs.declared.Stop.{Stop}
 use Rattle.scan.specs.Scan.{scan}
 use Rattle.look.specs.declared.Spot.{Spot}
 use Rattle.look.specs.declared.Looked.{Looked}
-use Rattle.look.specs.Look.{scanned, past, settled, seek, rescan, choose, tokenSet, token, skip, look}
-use Rattle.promise.specs.Cover.{NoMatch, Settled, Blank, Blanks, none, more}
+use Rattle.look.specs.Look.{scanned, past, seek, found, rescan, choose, soughtSet, piece, isLayout, lookOn, look}
+use Rattle.promise.specs.Cover.{NoMatch, Blank, Blanks, none, more}
 use Rattle.promise.specs.RightLook.{Sees, RightLook}
 use Rattle.promise.specs.RightLook as Sight
-use Rattle.scan.proofs.Matching.{some-bytes}
-use Rattle.promise.proofs.Leaves.{no-match, blanked, Taken, taken, none-valid, other}
+use Rattle.promise.proofs.Leaves.{no-match, Taken, taken, a-blank, a-leaf, none-sought, other}
 
-true-false : true ≡ false → ⊥
-true-false z = let y : _≡_ {A = ℕ} 0 1 = cc z in omega arith
+module _ (img : List ℕ) (passes : Passes img) (text : List ℕ) (allowance s from : ℕ) (ls : s < states img) where
+  -- The second scan: it finds no layout.
+  rescanned : (at : Spot) → Blanks img text s from (at .place) → at .place < length text → NoMatch img (drop (at .place) text) (sought img s)
+      → Sees img text s from (rescan img text allowance at) × (isLayout img (rescan img text allowance at) ≡ false)
+  unfolding rescan seek isEmpty isLayout
+  rescanned at b l n = go (stop .spent) refl (eqb (stop .set) 0) refl
+    where
+      stop : Stop
+      stop = scan img (allButEndAndLayout img) (allowance - at .moves) (drop (at .place) text)
+
+      go : (x : Bool) → stop .spent ≡ x → (y : Bool) → eqb (stop .set) 0 ≡ y
+          → Sees img text s from (rescan img text allowance at) × (isLayout img (rescan img text allowance at) ≡ false)
+      go true e y f = simp (rescan, seek, e) (Sight.spent (scanned (stop .moves) at) b, refl)
+      go false e true f =
+          simp (rescan, seek, isEmpty, e, f) (
+            Sight.none (scanned (stop .moves) at) b
+                (record { before-end = l; none-sought = n; no-other = no-match img passes text (allowance - at .moves) (at .place) (allButEndAndLayout img) e (eqb-true _ _ f) }),
+            refl,
+          )
+      go false e false f =
+          simp (rescan, seek, isEmpty, e, f)
+          (Sight.other _ _ (scanned (stop .moves) at) b (other img passes text (allowance - at .moves) (at .place) s l n e (eqb-false _ _ f)), refl)
+
+  -- What one piece comes to: layout, or what is seen.
+  data Pieced (at : Spot) : Looked → Type 0 where
+    blank : (size t moves : ℕ) → Blank img text s (at .place) size → isLayout img (found size t (scanned moves at)) ≡ true → Pieced at (found size t (scanned moves at))
+    seen : {l : Looked} → Sees img text s from l → isLayout img l ≡ false → Pieced at l
+
+  pieced : (at : Spot) → Blanks img text s from (at .place) → at .place < length text → Pieced at (piece img text allowance s at)
+  unfolding piece seek isEmpty choose isLayout member
+  pieced at b l = go (stop .spent) refl (eqb (stop .set) 0) refl
+    where
+      stop : Stop
+      stop = scan img (soughtSet img s) (allowance - at .moves) (drop (at .place) text)
+
+      go : (x : Bool) → stop .spent ≡ x → (y : Bool) → eqb (stop .set) 0 ≡ y → Pieced at (piece img text allowance s at)
+      go true e y f = simp (piece, seek, e) (seen (Sight.spent (scanned (stop .moves) at) b) refl)
+      go false e true f =
+          let r = rescanned (scanned (stop .moves) at) b l (none-sought img passes text (allowance - at .moves) (at .place) s e (eqb-true _ _ f)) in
+          simp (piece, seek, isEmpty, e, f) (seen (r .0) (r .1))
+      go false e false f = named (taken img passes text (allowance - at .moves) (at .place) s ls e (eqb-false _ _ f))
+        where
+          named : Taken img passes text (allowance - at .moves) (at .place) s stop → Pieced at (piece img text allowance s at)
+          named t = kind (has (layout img) (t .terminal)) refl
+            where
+              kind : (h : ℕ) → has (layout img) (t .terminal) ≡ h → Pieced at (piece img text allowance s at)
+              kind zero h =
+                  simp (piece, seek, isEmpty, choose, e, f, t .name)
+                  (seen (Sight.token (stop .length) (t .terminal) (scanned (stop .moves) at) b (a-leaf img passes text (allowance - at .moves) (at .place) (t .right) h)) (simp (isLayout, member, h)))
+              kind (suc zero) h =
+                  simp (piece, seek, isEmpty, choose, e, f, t .name)
+                  (blank (stop .length) (t .terminal) (stop .moves) (a-blank img passes text (allowance - at .moves) (at .place) (t .right) h) (simp (isLayout, member, h)))
+              kind (suc (suc x)) h = absurd (omega (arith, h, has-lt (layout img) (t .terminal)))
+
+  -- Piece after piece, if the count is one of the bytes that are left.
+  seen-on : (n : ℕ) (at : Spot) → length text ≤ at .place + n → Blanks img text s from (at .place) → Sees img text s from (lookOn img text allowance s n at)
+  unfolding lookOn
+  seen-on zero at l b = Sight.end at b (omega arith)
+  seen-on (suc n) at l b = go (seen-on n) (leb (length text) (at .place)) refl
+    where
+      go : ((to : Spot) → length text ≤ to .place + n → Blanks img text s from (to .place) → Sees img text s from (lookOn img text allowance s n to))
+          → (x : Bool) → leb (length text) (at .place) ≡ x → Sees img text s from (lookOn img text allowance s (suc n) at)
+      go ih true e = simp (lookOn, e) (Sight.end at b (leb-true _ _ e))
+      go ih false e = with-piece (piece img text allowance s at) refl (pieced at b (leb-false _ _ e))
+        where
+          with-piece : (p : Looked) → piece img text allowance s at ≡ p → Pieced at p → Sees img text s from (lookOn img text allowance s (suc n) at)
+          with-piece p f (seen sees h) = simp (lookOn, e, f, h) sees
+          with-piece p f (blank size t moves x h) =
+              simp (lookOn, e, f, h) (ih (past size (scanned moves at)) (omega (arith, l, x .right .some)) (more size b x))
+
+-- It keeps nothing from one look to the next, and so asks nothing of a spot.
+abbrev pub Any : ℕ → Spot → Type 0
+Any s at = Unit {0}
 
 module _ (img : List ℕ) (passes : Passes img) (text : List ℕ) (allowance : ℕ) where
-  -- Skipping layout leads over pieces of it to the spot where the last scan began.
-  skipped : (from n : ℕ) (at : Spot) → Blanks img text from (at .place) → Blanks img text from (skip img text allowance n at .at .place)
-  unfolding skip seek isEmpty
-  skipped from zero at b = b
-  skipped from (suc n) at b = go (skipped from n) (stop .spent) refl (eqb (stop .set) 0) refl
-    where
-      stop : Stop
-      stop = scan img (layout img) (allowance - at .moves) (drop (at .place) text)
-
-      go : ((to : Spot) → Blanks img text from (to .place) → Blanks img text from (skip img text allowance n to .at .place))
-          → (x : Bool) → stop .spent ≡ x → (y : Bool) → eqb (stop .set) 0 ≡ y → Blanks img text from (skip img text allowance (suc n) at .at .place)
-      go ih true e y f = simp (skip, seek, e) b
-      go ih false e true f = simp (skip, seek, isEmpty, e, f) b
-      go ih false e false f =
-          simp (skip, seek, isEmpty, e, f)
-          (ih (past (stop .length) (at .due) (scanned (stop .moves) at)) (more (stop .length) b (blanked img passes text (allowance - at .moves) (at .place) e (eqb-false _ _ f))))
-
-  -- It ends where no layout is matched, if its count is one of the bytes that are left.
-  ended : (n : ℕ) (at : Spot) → length text ≤ at .place + n → skip img text allowance n at .spent ≡ false
-      → Settled img text (skip img text allowance n at .at .place)
-  unfolding skip seek isEmpty
-  ended zero at l e =
-      record {
-        only-rejects = λ n q k. absurd (omega (arith, l, k .within, length-drop (at .place) text, some-bytes (passes .good) k));
-      }
-  ended (suc n) at l spared = go (ended n) (stop .spent) refl (eqb (stop .set) 0) refl spared
-    where
-      stop : Stop
-      stop = scan img (layout img) (allowance - at .moves) (drop (at .place) text)
-
-      go : ((to : Spot) → length text ≤ to .place + n → skip img text allowance n to .spent ≡ false → Settled img text (skip img text allowance n to .at .place))
-          → (x : Bool) → stop .spent ≡ x → (y : Bool) → eqb (stop .set) 0 ≡ y → skip img text allowance (suc n) at .spent ≡ false
-          → Settled img text (skip img text allowance (suc n) at .at .place)
-      go ih true e y f = simp (skip, seek, e) (λ z. absurd (true-false z))
-      go ih false e true f = simp (skip, seek, isEmpty, e, f) (λ z. no-match img passes text (allowance - at .moves) (at .place) (layout img) e (eqb-true _ _ f))
-      go ih false e false f =
-          simp (skip, seek, isEmpty, e, f)
-          (ih (past (stop .length) (at .due) (scanned (stop .moves) at)) (omega (arith, l, some-bytes (passes .good) (piece .last))))
-        where
-          piece : Blank img text (at .place) (stop .length)
-          piece = blanked img passes text (allowance - at .moves) (at .place) e (eqb-false _ _ f)
-
-  module _ (s from : ℕ) (ls : s < states img) where
-    -- The second scan.
-    rescanned : (at : Spot) → Blanks img text from (at .place) → Settled img text (at .place) → at .place < length text → NoMatch img (drop (at .place) text) (validSet img s)
-        → Sees img text s from (rescan img text allowance at)
-    unfolding rescan seek isEmpty
-    rescanned at b w l n = go (stop .spent) refl (eqb (stop .set) 0) refl
-      where
-        stop : Stop
-        stop = scan img (allButEndAndLayout img) (allowance - at .moves) (drop (at .place) text)
-
-        go : (x : Bool) → stop .spent ≡ x → (y : Bool) → eqb (stop .set) 0 ≡ y → Sees img text s from (rescan img text allowance at)
-        go true e y f = simp (rescan, seek, e) (Sight.spent (scanned (stop .moves) at) b)
-        go false e true f =
-            simp (rescan, seek, isEmpty, e, f)
-            (Sight.none (scanned (stop .moves) at) b
-            (record { before-end = l; after-layout = w; none-valid = n; no-other = no-match img passes text (allowance - at .moves) (at .place) (allButEndAndLayout img) e (eqb-true _ _ f) }))
-        go false e false f =
-            simp (rescan, seek, isEmpty, e, f)
-            (Sight.other _ _ (scanned (stop .moves) at) b (other img passes text (allowance - at .moves) (at .place) s ls l w n e (eqb-false _ _ f)))
-
-    -- The token.
-    tokened : (at : Spot) → Blanks img text from (at .place) → Settled img text (at .place) → Sees img text s from (token img text allowance s at)
-    unfolding token seek isEmpty choose
-    tokened at b settled-there = go (leb (length text) (at .place)) refl (stop .spent) refl (eqb (stop .set) 0) refl
-      where
-        stop : Stop
-        stop = scan img (tokenSet img s) (allowance - at .moves) (drop (at .place) text)
-
-        go : (w : Bool) → leb (length text) (at .place) ≡ w → (x : Bool) → stop .spent ≡ x → (y : Bool) → eqb (stop .set) 0 ≡ y
-            → Sees img text s from (token img text allowance s at)
-        go true l x e y f = simp (token, l) (Sight.end at b settled-there (leb-true _ _ l))
-        go false l true e y f = simp (token, seek, l, e) (Sight.spent (scanned (stop .moves) at) b)
-        go false l false e true f =
-            simp (token, seek, isEmpty, l, e, f)
-            (rescanned (scanned (stop .moves) at) b settled-there (leb-false _ _ l) (none-valid img passes text (allowance - at .moves) (at .place) s e (eqb-true _ _ f)))
-        go false l false e false f = named (taken img passes text (allowance - at .moves) (at .place) s ls settled-there e (eqb-false _ _ f))
-          where
-            named : Taken img passes text (allowance - at .moves) (at .place) s stop → Sees img text s from (token img text allowance s at)
-            named t =
-                simp (token, seek, isEmpty, choose, l, e, f, t .name)
-                (Sight.token (stop .length) (t .terminal) (scanned (stop .moves) at) b (t .right))
-
-  -- What it asks of a spot: where layout is not due, it is skipped to its end.
-  abbrev pub Due : ℕ → Spot → Type 0
-  Due s at = at .due ≡ false → Settled img text (at .place)
-
-  pub looked : (s : ℕ) (at : Spot) → s < states img → Due s at → Sees img text s (at .place) (look img text allowance s at)
+  pub looked : (s : ℕ) (at : Spot) → s < states img → Sees img text s (at .place) (look img text allowance s at)
   unfolding look
-  looked s at ls fits = go (at .due) refl (skip img text allowance (length text - at .place) at .spent) refl
-    where
-      go : (x : Bool) → at .due ≡ x → (y : Bool) → skip img text allowance (length text - at .place) at .spent ≡ y
-          → Sees img text s (at .place) (look img text allowance s at)
-      go false e y f = simp (look, e) (tokened s (at .place) ls at none (fits e))
-      go true e true f = simp (look, e, f) (Sight.spent _ (skipped (at .place) (length text - at .place) at none))
-      go true e false f =
-          simp (look, e, f)
-          (tokened s (at .place) ls (settled (skip img text allowance (length text - at .place) at .at)) (skipped (at .place) (length text - at .place) at none)
-          (ended (length text - at .place) at (omega arith) f))
+  looked s at ls = seen-on img passes text allowance s (at .place) ls (length text - at .place) at (omega arith) none
 
-  -- Where a token was found, layout is skipped to its end.
-  found-settled : {s from : ℕ} {l : Looked} → Sees img text s from l → l .code ≡ done → Settled img text (l .at .place)
-  found-settled (Sight.token size terminal to b r) e = r .after-layout
-  found-settled (Sight.end to b w l) e = w
-  found-settled (Sight.none to b why) e = absurd (omega arith)
-  found-settled (Sight.other size terminal to b why) e = absurd (omega arith)
-  found-settled (Sight.spent to b) e = absurd (omega arith)
-
-  -- It keeps nothing else from one look to the next.
-  pub right-look : RightLook img text Due (look img text allowance)
+  pub right-look : RightLook img text Any (look img text allowance)
   right-look =
       record {
-        begins = λ z. absurd (true-false z);
-        sees = λ s at ls f. looked s at ls f;
-        shifts = λ s v at ls f c e z. absurd (true-false z);
-        reduces = λ s p u v at ls f c e b g z. found-settled (looked s at ls f) c;
+        begins = tt;
+        sees = λ s at ls f. looked s at ls;
+        shifts = λ s v at ls f c e. tt;
+        reduces = λ s p u v at ls f c e b g. tt;
       }

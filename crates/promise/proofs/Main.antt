@@ -2,13 +2,13 @@
 -- every crate is proved to meet its contract, which says that its result is the definition's. Assumes nothing.
 use mathlib.Core.Path.{_≡_}
 use mathlib.Core.Bool.{false}
-use mathlib.Core.List.{List, [], _∷_}
-use Prim.Native.Nat.{ℕ, _*_, _<_, _≤_}
+use mathlib.Core.List.{List, [], _∷_, _++_}
+use Prim.Native.Nat.{ℕ, _+_, _*_, _<_, _≤_}
 use lib.Dec.{T}
-use lib.ListN.{length, getD, take}
+use lib.ListN.{length, getD, take, drop}
 use Rattle.sets.specs.Sets.{has, meet}
 use Rattle.numbers.specs.Codes.{done, noGroup, stuck, longestText, noTerminal}
-use Rattle.pack.specs.Image.{terminals, scanStates, dom, acc, needed, largestImage, firstNonterminal}
+use Rattle.pack.specs.Image.{terminals, scanStates, dom, act, acc, needed, largestImage, firstNonterminal}
 use Rattle.pack.specs.Laid.{Sized}
 use Rattle.numbers.specs.declared.Verdict.the-variants.{Good}
 use Rattle.shape.specs.Shape.{shape}
@@ -18,7 +18,7 @@ use Rattle.conditions.specs.Check.{plain, FirstFails, passed, failed, check}
 use Rattle.conditions.specs.declared.Checked.{Checked}
 use Rattle.conditions.proofs.Answers as Check
 use Rattle.scan.specs.Scan.{scan}
-use Rattle.scan.specs.Matching.{Last}
+use Rattle.scan.specs.Matching.{Matches, Last}
 use Rattle.scan.proofs.Theory as Scan
 use Rattle.scan.proofs.Longest as Longest
 use Rattle.text.specs.Reader.{all, readAll, read}
@@ -27,13 +27,15 @@ use Rattle.text.proofs.RoundTrip as Text
 use Rattle.look.specs.declared.Spot.{Spot}
 use Rattle.look.specs.declared.Looked.{Looked}
 use Rattle.parse.specs.declared.Parsed.{Parsed}
-use Rattle.parse.specs.Parse.{recordWords, run, start, parse, treeAfter}
-use Rattle.promise.specs.Cover.{Settled, Covers}
+use Rattle.parse.specs.Leaf.{part}
+use Rattle.parse.specs.Parse.{recordWords, leafRecord, run, start, parse, treeAfter}
+use Rattle.promise.specs.Cover.{RightLeaf, Blank, Covers}
 use Rattle.promise.specs.Refusal.{Outdone}
 use Rattle.promise.specs.Promised.{Accepted, Refused, Given, Promised, Halts, Own, Alike}
 use Rattle.promise.specs.RightLook.{RightLook}
+use Rattle.promise.specs.Together.{Competes, Longest, Reads}
 use Rattle.promise.specs.Way.{reached, Way}
-use Rattle.promise.specs.WrongLooks.{tiny, tinyText, kept, filtered}
+use Rattle.promise.specs.WrongLooks.{tiny, tinyText, kept, filtered, slashes, slashesText, layoutFirst}
 use Rattle.promise.specs.SmallPack.{small}
 use Rattle.promise.specs.Marked.{cases, allRight}
 use Rattle.promise.proofs.Records.{wordOf, LeafAt}
@@ -42,6 +44,8 @@ use Rattle.promise.proofs.Promised as Third
 use Rattle.promise.proofs.Entry as Entry
 use Rattle.promise.proofs.Letter as Letter
 use Rattle.promise.proofs.One as One
+use Rattle.promise.proofs.Slashes as Slashes
+use Rattle.promise.proofs.Together as Together
 use Rattle.promise.proofs.WrongLooks as Wrong
 use Rattle.promise.proofs.Marked as Marked
 use Rattle.promise.proofs.Passing as Passing
@@ -136,9 +140,9 @@ module _ (img : List ℕ) (checked : check img ≡ passed) (text tree : List ℕ
 
   -- `group` where the keyword is not allowed is not read as the names `grou` and `p`: where the tables come to such a place, no parse gets
   -- further, and one that is not cut short by the limits of text, tree, stack or allowance is refused there, with 7 or 8.
-  pub halts : {state place : ℕ} {below words : List ℕ} → Way img text (reached (state ∷ below) words place) → Settled img text place
+  pub halts : {state place : ℕ} {below words : List ℕ} → Way img text (reached (state ∷ below) words place)
       → Outdone img text state place → Halts words place (parse img text tree allowance)
-  halts way settled outdone = Letter.halts img (Check.checked-passes img checked) text way settled outdone (Third.promised-checked img checked text tree allowance)
+  halts way outdone = Letter.halts img (Check.checked-passes img checked) text way outdone (Third.promised-checked img checked text tree allowance)
 
 -- The same of the functions themselves, by their contracts alone: of what `check` gave, and of what `parse` returned and left in the tree.
 module _ (img text tree tree′ : List ℕ) (allowance : ℕ) (c : Checked) (r : Parsed) (checks : c ≡ check img) (zeros : c ≡ passed)
@@ -180,14 +184,17 @@ pub promised-run : (img : List ℕ) → Passes img → (text : List ℕ) {Fits :
     → (room : ℕ) → Promised img text (run img looks room start)
 promised-run = Third.promised-run
 
--- The longest match over all terminals, filtered afterwards, is not right; nor is a token kept across a reduction.
+-- The longest match over all terminals, filtered afterwards, is not right; nor is a token kept across a reduction; nor layout skipped first.
 pub filtered-is-wrong : {Fits : ℕ → Spot → Type 0} → RightLook tiny tinyText Fits filtered → ⊥
 filtered-is-wrong = Wrong.filtered-is-wrong
 
 pub kept-is-wrong : {Fits : ℕ → Spot → Type 0} → RightLook tiny tinyText Fits kept → ⊥
 kept-is-wrong = Wrong.kept-is-wrong
 
--- Each leaf by the numbers of its record; and none begins where all that match and are valid in its state are outranked.
+pub layout-first-is-wrong : {Fits : ℕ → Spot → Type 0} → RightLook slashes slashesText Fits layoutFirst → ⊥
+layout-first-is-wrong = Wrong.layout-first-is-wrong
+
+-- Each leaf by the numbers of its record; and none begins where all that match last, of those valid in its state and layout, are outranked.
 pub every-leaf : {img text words : List ℕ} {place : ℕ} → Covers img text words place → (i : ℕ) → i * recordWords < length words → wordOf words i 0 < firstNonterminal
     → LeafAt img text words i
 every-leaf = Records.every-leaf
@@ -195,6 +202,44 @@ every-leaf = Records.every-leaf
 pub no-record-there : {img text words : List ℕ} {place state begin : ℕ} → Outdone img text state begin → Covers img text words place → (i : ℕ) → i * recordWords < length words
     → wordOf words i 0 < firstNonterminal → wordOf words i 1 ≡ begin → wordOf words i 3 ≡ state → ⊥
 no-record-there = Letter.no-record-there
+
+-- ---- layout and tokens together
+
+-- Where layout is skipped in a state, nothing that the state allows matches more bytes, and no layout; and where a leaf is read, likewise.
+pub blank-longest : {img text : List ℕ} {state begin size : ℕ} → Blank img text state begin size → (t n : ℕ) → Competes img state t → n ≤ length (drop begin text)
+    → Matches img (part text begin n) t → n ≤ size
+blank-longest = Together.blank-longest
+
+pub leaf-longest : {img text : List ℕ} {terminal begin size state : ℕ} → RightLeaf img text terminal begin size state → (t n : ℕ) → Competes img state t
+    → n ≤ length (drop begin text) → Matches img (part text begin n) t → n ≤ size
+leaf-longest = Together.leaf-longest
+
+-- Where an operator and a comment begin alike, and the operator is allowed and longer, it is the leaf that is right there, and is read.
+module _ (img : List ℕ) (passes : Passes img) (text : List ℕ) where
+  pub longest-right : {operator begin size state : ℕ} → Longest img text operator begin size state → RightLeaf img text operator begin size state
+  longest-right = Together.longest-right img passes text
+
+  pub operator-read : {Fits : ℕ → Spot → Type 0} {looks : ℕ → Spot → Looked} → RightLook img text Fits looks → {operator size state : ℕ} (at : Spot) → Fits state at
+      → Longest img text operator (at .place) size state → Reads operator (at .place) size (looks state at)
+  operator-read = Together.operator-read img passes text
+
+  -- Where a leaf is right, alone or chosen by a group, no layout is skipped; every right look reads it, unless the allowance is used up; and
+  -- where the tables come there and shift it, it is a leaf of the derivation.
+  pub nothing-skipped : {terminal begin n size state : ℕ} → RightLeaf img text terminal begin size state → Blank img text state begin n → ⊥
+  nothing-skipped = Together.nothing-skipped img passes text
+
+  pub leaf-read : {Fits : ℕ → Spot → Type 0} {looks : ℕ → Spot → Looked} → RightLook img text Fits looks → {terminal size state : ℕ} (at : Spot) → Fits state at
+      → RightLeaf img text terminal (at .place) size state → Reads terminal (at .place) size (looks state at)
+  leaf-read = Together.leaf-read img passes text
+
+  pub leaf-derived : {terminal begin size state : ℕ} {below words all-words : List ℕ} (v : ℕ) → Way img text (reached (state ∷ below) words begin)
+      → RightLeaf img text terminal begin size state → act img state terminal ≡ 2 + 2 * v → Accepted img text all-words
+      → (rest : List ℕ) × (all-words ≡ (words ++ leafRecord terminal begin size state) ++ rest)
+  leaf-derived = Together.leaf-derived img passes text
+
+-- Such operators are there: `//=` is one, where a comment begins with `//`.
+pub slashes-longest : Longest slashes slashesText 1 0 3 0
+slashes-longest = Slashes.slashes-longest
 
 -- ---- the marked cases, one table
 

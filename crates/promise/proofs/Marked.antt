@@ -11,7 +11,7 @@ use Rattle.rules.specs.Rules.{fits, domRight, isSymbol, actRight, abovePrevious
 use Rattle.shape.specs.Shape.{rule, andThen, each, sizeRule, lengthRule, layoutRule, domRule, symbolRule, prodRule, actRule, cellRule, gotoRules, moveRules, rangeRule, scanRule, groupRule, parserRules, scannerRules, headRules, shape}
 use Rattle.scan.specs.Scan.{remember, moveOn, onward, scanFrom}
 use Rattle.scan.specs.Token.{chosenIn, terminalOf}
-use Rattle.look.specs.Look.{seek, rescan, choose, token, skip, look}
+use Rattle.look.specs.Look.{seek, rescan, choose, piece, isLayout, lookOn, look}
 use Rattle.parse.specs.Parse.{reduceBy, accept, perform, step, run, parse}
 use Rattle.conditions.specs.Tests.{allBelow, someBelow, implies, same as alike}
 use Rattle.conditions.specs.Edges.{shiftOf, edgeTo, isEdge, leads, enters, onlyOn, reached}
@@ -27,7 +27,7 @@ use Rattle.promise.specs.Marked.{cases, same, ofParse, ofCheck, right, a
 
 -- Every marked case, variant and check.
 pub marked : T (allRight cases)
-unfolding trailingZeros has member lacks isEmpty subset countBelow several setAt leastSize greatestSize layout dom lhs len symbol act goto move actionOf lo hi rangeClass acc rej poss groupSet chosen classIn validFrom rule andThen each sizeRule lengthRule fits layoutRule domRight domRule isSymbol symbolRule prodRule actRight actRule cellRule gotoRules moveRules abovePrevious rangeRule emptyAtStart scanRule differs groupRule parserRules scannerRules headRules shape remember moveOn onward scanFrom chosenIn terminalOf seek rescan choose token skip look reduceBy accept perform step run parse allBelow someBelow implies alike shiftOf edgeTo isEdge leads enters onlyOn reached outranked k1 within k2 isGroup settled k3 k4 reduces steps ends k5 fromStart k6 number firsts seconds test inRow inRows find report firstFailing checkAll check small small11 small12 small12too cases same ofParse ofCheck right allRight
+unfolding trailingZeros has member lacks isEmpty subset countBelow several setAt leastSize greatestSize layout dom lhs len symbol act goto move actionOf lo hi rangeClass acc rej poss groupSet chosen classIn validFrom rule andThen each sizeRule lengthRule fits layoutRule domRight domRule isSymbol symbolRule prodRule actRight actRule cellRule gotoRules moveRules abovePrevious rangeRule emptyAtStart scanRule differs groupRule parserRules scannerRules headRules shape remember moveOn onward scanFrom chosenIn terminalOf seek rescan choose piece isLayout lookOn look reduceBy accept perform step run parse allBelow someBelow implies alike shiftOf edgeTo isEdge leads enters onlyOn reached outranked k1 within k2 isGroup settled k3 k4 reduces steps ends k5 fromStart k6 number firsts seconds test inRow inRows find report firstFailing checkAll check small small11 small12 small12too cases same ofParse ofCheck right allRight
 marked = tt
 
 -- "Its image has 189 words".

@@ -1,11 +1,14 @@
 -- For a pack of good shape terminal 0 is in no set of a scan state, so that a valid set may have it or not. Assumes nothing.
-use mathlib.Core.Path.{_≡_, sym, _∙_}
+use mathlib.Core.Path.{_≡_, refl, sym, ap, _∙_}
+use mathlib.Core.Bool.{Bool, true, false}
 use mathlib.Core.List.{List}
 use Prim.Native.Nat.{ℕ, zero, suc, _<_, _^_}
 use native.Mathlib.Omega.{arith}
+use lib.Dec.{ltb}
 use lib.Bits.{bitAnd, and-le-l, or-lt}
+use borrow.Author.Tests.{ltb-true, ltb-false}
 use Rattle.sets.specs.Sets.{has, meet, less, single}
-use Rattle.sets.proofs.Laws.{has-none, has-suc, has-and, has-or, has-less, ext}
+use Rattle.sets.proofs.Laws.{has-lt, has-none, has-above, has-suc, has-and, has-or, has-less, ext}
 use Rattle.pack.specs.Image.{terminals, scanStates, acc, rej}
 use Rattle.numbers.specs.declared.Verdict.the-variants.{Good}
 use Rattle.shape.specs.Shape.{shape}
@@ -13,6 +16,19 @@ use Rattle.shape.proofs.Good.{good-acc, good-rej}
 use Rattle.conditions.specs.Conditions.{matched}
 use Rattle.scan.specs.Matching.{Last}
 use Rattle.scan.proofs.Matching.{led}
+
+-- What is in a set of k terminals is below k.
+pub has-below : {x k : ℕ} (t : ℕ) → x < 2 ^ k → has x t ≡ 1 → t < k
+has-below {x} {k} t l h = go (ltb t k) refl
+  where
+    go : (y : Bool) → ltb t k ≡ y → t < k
+    go true e = ltb-true _ _ e
+    go false e = absurd (omega (arith, h, has-above t l (ltb-false _ _ e)))
+
+-- What is accepted and in a set is something of the set that matches.
+pub some-matched : (img : List ℕ) (q v t : ℕ) → has (acc img q) t ≡ 1 → has v t ≡ 1 → meet (matched img q) v ≡ 0 → ⊥
+some-matched img q v t a d e =
+    omega (arith, ap (λ (x : ℕ). has x t) e, has-none t, has-and (matched img q) v t, has-or (acc img q) (rej img q) t, has-lt (rej img q) t, a, d)
 
 -- A set without terminal 0 meets V less bit 0 as it meets V.
 no-end : (k x v : ℕ) → x < 2 ^ k → has x 0 ≡ 0 → meet x (less v (single 0)) ≡ meet x v

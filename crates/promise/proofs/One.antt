@@ -24,9 +24,9 @@ use Rattle.promise.proofs.Promised.{promised-checked}
 module _ {img text : List ℕ} {s r place : ℕ} where
   one-other : {n m t u : ℕ} → Unexpected img text s place n t → Unexpected img text r place m u → (n ≡ m) × (t ≡ u)
   one-other (at-end l e i) (at-end k f j) = (refl, refl)
-  one-other (at-end l e i) (instead n t q k w m last a b c d) = absurd (omega arith)
-  one-other (instead n t q l w m last a b c d) (at-end k f j) = absurd (omega arith)
-  one-other (instead n t q l w o last a b c d) (instead m u p k x z last′ a′ b′ c′ d′) =
+  one-other (at-end l e i) (instead n t q k m last a b c d) = absurd (omega arith)
+  one-other (instead n t q l m last a b c d) (at-end k f j) = absurd (omega arith)
+  one-other (instead n t q l o last a b c d) (instead m u p k z last′ a′ b′ c′ d′) =
       let e = one-last last last′ in
       let below = d u b′ (rw (← e) at c′) in
       let above = d′ t b (rw e at c) in
@@ -34,7 +34,7 @@ module _ {img text : List ℕ} {s r place : ℕ} where
 
   not-none : {n t : ℕ} → NoTerminal img text s place → Unexpected img text r place n t → ⊥
   not-none x (at-end l e i) = omega (arith, x .before-end)
-  not-none x (instead n t q l w o last a b c d) =
+  not-none x (instead n t q l o last a b c d) =
       let z = ap (λ (y : ℕ). has y t) (x .no-other .only-rejects n q last) in
       let h = rw (same-state (c .leads) (last .leads)) at (c .here) in
       omega (arith, z, has-none t, has-and (acc img q) (allButEndAndLayout img) t, h, b)
@@ -78,7 +78,7 @@ module _ (img : List ℕ) (passes : Passes img) (text : List ℕ) where
   -- A state that accepts at the end of the text has no unexpected token there.
   not-other : {s place n t : ℕ} → length text ≤ place → act img s endOfText ≡ 1 → Unexpected img text s place n t → ⊥
   not-other l a (at-end k e i) = omega (arith, a, e)
-  not-other l a (instead n t q k w o last b c d f) = omega (arith, l, k)
+  not-other l a (instead n t q k o last b c d f) = omega (arith, l, k)
 
   module _ (e f : Ending) {s r : ℕ} (same-top : s ≡ r) (same-place : e .parsed .place ≡ f .parsed .place) where
     agree : Kind e s → Kind f r → (e .parsed .code ≡ f .parsed .code)

@@ -1,46 +1,30 @@
--- The terminals of the second scan, all but the end of the text and layout, are more than those that a state allows. So what it matches
--- where nothing that is valid matches is not valid. Assumes nothing.
+-- Where nothing that is sought is matched, what matches of it last is outdone. So a valid terminal that the second scan matches there is one
+-- that layout outdoes after more bytes. Assumes nothing.
 use mathlib.Core.Path.{_≡_, refl, sym, ap, _∙_}
 use mathlib.Core.Bool.{Bool, true, false}
 use mathlib.Core.List.{List}
-use Prim.Native.Nat.{ℕ, zero, suc, _-_, _/_, _^_, _<_, _≤_}
-use native.Mathlib.Nat.{pow-suc}
+use Prim.Native.Nat.{ℕ, zero, suc, _+_, _-_, _<_, _≤_}
 use native.Mathlib.Omega.{arith}
 use lib.Dec.{eqb}
-use lib.Pow.{pow-pos}
-use lib.Bits.{bitAnd, and-le-l}
+use lib.ListN.{length, take, drop}
 use borrow.Author.Tests.{eqb-true, eqb-false}
 use Rattle.sets.specs.Sets.{has, lacks, meet}
-use Rattle.sets.proofs.Laws.{has-lt, has-none, has-zero, has-suc, has-and, has-or, has-less, empty}
-use Rattle.pack.specs.Image.{terminals, states, scanStates, layout, act, actionOf, acc, rej, validSet, allButEnd, allButEndAndLayout}
-use Rattle.pack.proofs.Valid.{valid-cell}
+use Rattle.sets.proofs.Laws.{has-lt, has-none, has-and, has-or}
+use Rattle.pack.specs.Image.{terminals, states, scanStates, layout, dom, act, actionOf, acc, rej, validSet}
 use Rattle.numbers.specs.declared.Verdict.the-variants.{Good}
 use Rattle.rules.specs.Rules.{actRight}
 use Rattle.rules.proofs.Laws.{layout-column}
 use Rattle.shape.specs.Shape.{parserRules, actRule, shape}
 use Rattle.shape.proofs.Laws.{rule-good, and-then-good, each-at}
-use Rattle.shape.proofs.Good.{good-parts, good-acc, good-rej, good-layout}
+use Rattle.shape.proofs.Good.{good-parts, good-rej, good-layout}
 use Rattle.shape.proofs.GoodParser.{good-accept}
-use Rattle.conditions.specs.Conditions.{matched}
-use Rattle.scan.specs.Matching.{Last}
+use Rattle.conditions.specs.Conditions.{Passes, matched, sought}
+use Rattle.scan.specs.Matching.{ledFrom, Leads, Matches, Last}
+use Rattle.scan.proofs.Matching.{same-state, led}
+use Rattle.parse.specs.Leaf.{part}
 use Rattle.promise.specs.Cover.{NoMatch}
-use Rattle.scan.proofs.Matching.{led}
-use Rattle.promise.proofs.Matching.{matched-below}
-
--- All terminals below k; and all but terminal 0.
-all-below : (k t : ℕ) → t < k → has (2 ^ k - 1) t ≡ 1
-all-below zero t l = absurd (omega arith)
-all-below (suc k) zero l = has-zero (2 ^ suc k - 1) ∙ rw (pow-suc 2 k) (let p = pow-pos k in omega (arith, p))
-all-below (suc k) (suc t) l =
-    let half : (2 ^ suc k - 1) / 2 ≡ 2 ^ k - 1 = rw (pow-suc 2 k) (omega (arith, pow-pos k)) in
-    has-suc (2 ^ suc k - 1) t ∙ rw half (all-below k t (omega arith))
-
-all-but-end : (k t : ℕ) → 1 ≤ t → t < k → has (2 ^ k - 2) t ≡ 1
-all-but-end zero t m l = absurd (omega arith)
-all-but-end (suc k) zero m l = absurd (omega arith)
-all-but-end (suc k) (suc t) m l =
-    let half : (2 ^ suc k - 2) / 2 ≡ 2 ^ k - 1 = rw (pow-suc 2 k) (omega (arith, pow-pos k)) in
-    has-suc (2 ^ suc k - 2) t ∙ rw half (all-below k t (omega arith))
+use Rattle.promise.specs.Refusal.{Outdone}
+use Rattle.promise.proofs.Matching.{has-below, some-matched}
 
 module _ (img : List ℕ) (good : shape img ≡ Good) where
   act-right : (s t : ℕ) → s < states img → t < terminals img → actRight img t (actionOf (act img s t)) ≡ true
@@ -61,61 +45,97 @@ module _ (img : List ℕ) (good : shape img ≡ Good) where
           let w = layout-column img t (act img s t) refl n (eqb-false _ _ e) f in
           let z : _≡_ {A = ℕ} 0 1 = cc (sym w ∙ act-right s t ls lt) in absurd (omega arith)
 
-  among : (s t : ℕ) → s < states img → 1 ≤ t → has (validSet img s) t ≡ 1 → has (allButEndAndLayout img) t ≡ 1
-  among s t ls m h =
-      let c = valid-cell img s t h in
-      omega (arith, has-less (allButEnd img) (layout img) t, not-layout s t ls (c .0) (c .1), all-but-end (terminals img) t m (c .0))
+-- What matches at some length matches last at that or a greater one.
+module _ (img bytes : List ℕ) (v n q : ℕ) (leads : Leads img (take n bytes) q) (here : meet (matched img q) v ≡ 0 → ⊥) where
+  record Later : Type 0 where
+    size : ℕ
+    state : ℕ
+    last : Last img bytes v size state
+    no-less : n ≤ size
 
-  module _ (s : ℕ) (ls : s < states img) {bytes : List ℕ} {size q : ℕ} (last : Last img bytes (allButEndAndLayout img) size q) where
-    -- What matches nothing of the others matches nothing that is valid.
-    none-more : (p : ℕ) → p < scanStates img → meet (matched img p) (allButEndAndLayout img) ≡ 0 → meet (matched img p) (validSet img s) ≡ 0
-    none-more p lp e =
-        empty (terminals img) (meet (matched img p) (validSet img s)) (omega (arith, and-le-l (matched img p) (validSet img s), matched-below img good p lp))
-        (λ t l. go t (has (validSet img s) t) refl)
-      where
-        go : (t b : ℕ) → has (validSet img s) t ≡ b → has (bitAnd (matched img p) (validSet img s)) t ≡ 0
-        go zero b f =
-            omega (arith, has-and (matched img p) (validSet img s) 0, has-or (acc img p) (rej img p) 0, good-acc img good p lp .1, good-rej img good p lp .1)
-        go (suc t) zero f = omega (arith, has-and (matched img p) (validSet img s) (suc t))
-        go (suc t) (suc zero) f =
-            omega (
-              arith,
-              has-and (matched img p) (validSet img s) (suc t),
-              has-and (matched img p) (allButEndAndLayout img) (suc t),
-              among s (suc t) ls (omega arith) f,
-              ap (λ (x : ℕ). has x (suc t)) e,
-              has-none (suc t),
-              has-lt (matched img p) (suc t),
-            )
-        go (suc t) (suc (suc b)) f = absurd (omega (arith, f, has-lt (validSet img s) (suc t)))
+  -- d lengths above n are still to be looked at.
+  seek-last : (d : ℕ) → n + d ≤ length bytes → ((m p : ℕ) → n + d < m → m ≤ length bytes → Leads img (take m bytes) p → meet (matched img p) v ≡ 0) → Later
+  seek-last zero l after =
+      record {
+        size = n;
+        state = q;
+        last = record { within = omega arith; leads = leads; here = here; after = λ m p h w k. after m p (omega arith) w k };
+        no-less = omega arith;
+      }
+  seek-last (suc d) l after = go (seek-last d (omega arith)) (ledFrom img 0 (take (n + suc d) bytes)) refl
+    where
+      -- Nothing matches at this length either.
+      with-this : ((p : ℕ) → Leads img (take (n + suc d) bytes) p → meet (matched img p) v ≡ 0)
+          → (m p : ℕ) → n + d < m → m ≤ length bytes → Leads img (take m bytes) p → meet (matched img p) v ≡ 0
+      with-this this m p h w k = which (eqb m (n + suc d)) refl
+        where
+          which : (y : Bool) → eqb m (n + suc d) ≡ y → meet (matched img p) v ≡ 0
+          which true f = this p (rw (eqb-true m (n + suc d) f) at k)
+          which false f = let z : (m ≡ n + suc d → ⊥) = eqb-false m (n + suc d) f in after m p (omega arith) w k
 
-    pub not-valid : (terminal : ℕ) → NoMatch img bytes (validSet img s) → has (acc img q) terminal ≡ 1 → has (validSet img s) terminal ≡ 0
-    not-valid terminal none a = go (has (validSet img s) terminal) refl
-      where
-        accepted : has (validSet img s) terminal ≡ 1 → (x : ℕ) → meet (acc img q) (validSet img s) ≡ x → has x terminal ≡ 1
-        accepted f x e = rw (← e) (omega (arith, has-and (acc img q) (validSet img s) terminal, a, f))
+      go : (((m p : ℕ) → n + d < m → m ≤ length bytes → Leads img (take m bytes) p → meet (matched img p) v ≡ 0) → Later)
+          → (x : ℕ) → ledFrom img 0 (take (n + suc d) bytes) ≡ x → Later
+      go ih zero e = ih (with-this (λ p k. absurd (omega (arith, e, k .way))))
+      go ih (suc p) e = test (eqb (meet (matched img p) v) 0) refl
+        where
+          test : (y : Bool) → eqb (meet (matched img p) v) 0 ≡ y → Later
+          test false f =
+              record {
+                size = n + suc d;
+                state = p;
+                last = record { within = l; leads = record { way = e }; here = eqb-false _ _ f; after = after };
+                no-less = omega arith;
+              }
+          test true f = ih (with-this (λ r k. let z : r ≡ p = omega (arith, e, k .way) in rw z (eqb-true _ _ f)))
 
-        matches : has (validSet img s) terminal ≡ 1 → meet (matched img q) (validSet img s) ≡ 0 → ⊥
-        matches f e =
-            omega (
-              arith,
-              ap (λ (x : ℕ). has x terminal) e,
-              has-none terminal,
-              has-and (matched img q) (validSet img s) terminal,
-              has-or (acc img q) (rej img q) terminal,
-              has-lt (rej img q) terminal,
-              a,
-              f,
-            )
+  some-last : n ≤ length bytes → Later
+  some-last l =
+      let z : n + (length bytes - n) ≡ length bytes = omega arith in
+      seek-last (length bytes - n) (omega arith) (λ m p h w k. absurd (omega (arith, z)))
 
-        go : (b : ℕ) → has (validSet img s) terminal ≡ b → has (validSet img s) terminal ≡ 0
-        go zero f = f
-        go (suc zero) f =
-            let l : Last img bytes (validSet img s) size q = record {
-              within = last .within;
-              leads = last .leads;
-              here = matches f;
-              after = λ m p h w d. none-more p (led img good d) (last .after m p h w d);
-            } in
-            absurd (omega (arith, accepted f 0 (none .only-rejects size q l), has-none terminal))
-        go (suc (suc b)) f = absurd (omega (arith, f, has-lt (validSet img s) terminal))
+module _ (img : List ℕ) (passes : Passes img) (text : List ℕ) (s place : ℕ) (none : NoMatch img (drop place text) (sought img s)) where
+  -- What matches last is rejected, and so outranked.
+  pub outdone : {n q : ℕ} → Last img (drop place text) (sought img s) n q → Outdone img text s place
+  outdone {n} {q} last = record { size = n; q = q; last = last; by = λ t d m. go t d (rw (same-state (m .leads) (last .leads)) at (m .here)) }
+    where
+      lq : q < scanStates img
+      lq = led img (passes .good) (last .leads)
+
+      go : (t : ℕ) → has (sought img s) t ≡ 1 → has (matched img q) t ≡ 1 → (u : ℕ) × (has (dom img t) u ≡ 1) × Matches img (part text place n) u
+      go t d h =
+          let z = ap (λ (x : ℕ). has x t) (none .only-rejects n q last) in
+          let r : has (rej img q) t ≡ 1 = omega (
+            arith,
+            z,
+            has-none t,
+            has-and (acc img q) (sought img s) t,
+            has-or (acc img q) (rej img q) t,
+            d,
+            h,
+            has-lt (acc img q) t,
+            has-lt (rej img q) t,
+          ) in
+          let o = passes .k1 q lq .rejected t (has-below t (good-rej img (passes .good) q lq .0) r) r in
+          (o .by, o .outranks, record { state = q; leads = last .leads; here = o .matches-too })
+
+  -- A valid terminal that is accepted all the same is accepted after fewer bytes.
+  pub outdone-further : {size q : ℕ} (terminal : ℕ) → size ≤ length (drop place text) → Leads img (part text place size) q → has (acc img q) terminal ≡ 1
+      → has (validSet img s) terminal ≡ 1 → (o : Outdone img text s place) × (size < o .size)
+  unfolding outdone
+  outdone-further {size} {q} terminal w leads a v = go (some-last img (drop place text) (sought img s) size q leads matches w)
+    where
+      is-sought : has (sought img s) terminal ≡ 1
+      is-sought = omega (arith, v, has-or (validSet img s) (layout img) terminal, has-lt (layout img) terminal)
+
+      matches : meet (matched img q) (sought img s) ≡ 0 → ⊥
+      matches = some-matched img q (sought img s) terminal a is-sought
+
+      go : Later img (drop place text) (sought img s) size q leads matches → (o : Outdone img text s place) × (size < o .size)
+      go l = longer (eqb size (l .size)) refl
+        where
+          longer : (x : Bool) → eqb size (l .size) ≡ x → (o : Outdone img text s place) × (size < o .size)
+          longer false e = let z : (size ≡ l .size → ⊥) = eqb-false _ _ e in (outdone (l .last), omega (arith, l .no-less))
+          longer true e =
+              let z = same-state (rw (← eqb-true size (l .size) e) at (l .last .leads)) leads in
+              let n = rw z at (none .only-rejects (l .size) (l .state) (l .last)) in
+              absurd (omega (arith, ap (λ (x : ℕ). has x terminal) n, has-none terminal, has-and (acc img q) (sought img s) terminal, a, is-sought))

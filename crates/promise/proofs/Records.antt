@@ -60,7 +60,7 @@ module _ (img text : List ℕ) where
 
   whole : {words : List ℕ} {place : ℕ} → Covers img text words place → Whole words
   whole start = record { count = 0; all = refl }
-  whole (blank size c b) = whole c
+  whole (blank size state c b) = whole c
   whole (leaf t size state c r) = one-more _ _ _ _ _ (whole c)
   whole (node p state c) = one-more _ _ _ _ _ (whole c)
 
@@ -68,7 +68,7 @@ module _ (img text : List ℕ) where
       → LeafAt img text words i
   unfolding whole one-more
   counted start i l h = absurd (omega arith)
-  counted (blank size c b) i l h = counted c i l h
+  counted (blank size state c b) i l h = counted c i l h
   counted (leaf t size state c r) i l h = grown _ _ _ _ _ (whole c) i l (λ m k. counted c i m k) (λ k. r) h
   counted (node p state c) i l h = grown _ _ _ _ _ (whole c) i l (λ m k. counted c i m k) (λ k. absurd (omega arith)) h
 

@@ -13,13 +13,13 @@ use Rattle.numbers.specs.Codes.{done, noTerminal, unexpected, noGroup, stuck, a
 use Rattle.pack.specs.declared.Action.{Action}
 use Rattle.pack.specs.Image.{terminals, states, productions, validSet, act, actionOf, endOfText}
 use Rattle.pack.proofs.Valid.{valid-cell}
-use Rattle.shape.proofs.Good.{good-laid, good-acc}
+use Rattle.shape.proofs.Good.{good-laid}
 use Rattle.shape.proofs.GoodParser.{Coded, error, shift, reduce, coded, good-shift, good-reduce, good-accept}
 use Rattle.shape.proofs.GoodParser as Codes
 use Rattle.conditions.specs.Conditions.{Passes}
 use Rattle.look.specs.declared.Spot.{Spot}
 use Rattle.look.specs.declared.Looked.{Looked}
-use Rattle.look.specs.Look.{past, settled}
+use Rattle.look.specs.Look.{past}
 use Rattle.parse.specs.Parse.{Standing, Ending, ending, Step, ends, goes, reduceBy, accept, perform, step}
 use Rattle.promise.specs.Derivation.{Stands}
 use Rattle.promise.specs.Cover.{RightLeaf}
@@ -29,7 +29,6 @@ use Rattle.promise.specs.Way.{Token, word, end-of-text, reached, Way, on
 use Rattle.promise.specs.Way as Walk
 use Rattle.promise.specs.RightLook.{Sees, RightLook}
 use Rattle.promise.specs.RightLook as Sight
-use Rattle.scan.proofs.Matching.{led}
 use Rattle.promise.proofs.Ways.{covers, covers-within, on-blanks}
 use Rattle.promise.proofs.Stack.{is-state, Reduced, reduced, accepts, shifted}
 
@@ -81,7 +80,7 @@ module _ (img : List ℕ) (passes : Passes img) (text : List ℕ) {Fits : ℕ �
               → Outcome s rest words (reduceBy img p (standing s rest words to))
           go r =
               simp (reduceBy, lt-ltb _ _ (r .enough), r .cell)
-              (onward to (r .v) _ _ (settled to) way (r .after) (on way (Walk.reduces t p (r .v) token e (r .enough) (r .cell ∙ one (r .v))))
+              (onward to (r .v) _ _ to way (r .after) (on way (Walk.reduces t p (r .v) token e (r .enough) (r .cell ∙ one (r .v))))
               (rw ea at (right .reduces s p _ (r .v) at ls fits ec (rw et e) (r .back) (r .cell ∙ one (r .v)))))
 
       ends-right : act img s 0 ≡ 1 → length text ≤ to .place → Outcome s rest words (accept (standing s rest words to))
@@ -110,16 +109,11 @@ module _ (img : List ℕ) (passes : Passes img) (text : List ℕ) {Fits : ℕ �
           lt : t < terminals img
           lt = valid-cell img s t (leaf-right .valid) .0
 
-          some : t ≡ 0 → ⊥
-          some z =
-              let a = rw z at (leaf-right .accepted .here) in
-              omega (arith, a, good-acc img (passes .good) _ (led img (passes .good) (leaf-right .accepted .leads)) .1)
-
           go : (a : Action) → Coded (act img s t) a → Outcome s rest words (perform img a size t (standing s rest words to))
           go a (error e) = absurd (valid-cell img s t (leaf-right .valid) .1 e)
-          go a (Codes.accept e) = absurd (some (good-accept img (passes .good) s t ls lt e))
+          go a (Codes.accept e) = absurd (leaf-right .not-end (good-accept img (passes .good) s t ls lt e))
           go a (shift v e) =
-              onward to v _ _ (past size true to) way (shifted img passes (to .place) size trees lt e) (on way (Walk.shifts t size v leaf-right e))
+              onward to v _ _ (past size to) way (shifted img passes (to .place) size trees lt e) (on way (Walk.shifts t size v leaf-right e))
               (rw (es, ea) at (right .shifts s v at ls fits ec (rw et e)))
           go a (reduce p e) = reduces p t lt e (word size leaf-right) ec et ea
 
@@ -152,7 +146,7 @@ module _ (img : List ℕ) (passes : Passes img) (text : List ℕ) {Fits : ℕ �
       where
         go : (l : Looked) → looks s at ≡ l → Sees img text s (at .place) l → Outcome s rest words (step img looks (standing s rest words at))
         go l e (Sight.token size terminal to b r) = simp (step, e) (tokened to (on-blanks way b) size terminal r (rw e refl) (rw e refl) (rw e refl) (rw e refl))
-        go l e (Sight.end to b w past-end) = simp (step, e) (ended to (on-blanks way b) past-end (rw e refl) (rw e refl) (rw e refl))
+        go l e (Sight.end to b past-end) = simp (step, e) (ended to (on-blanks way b) past-end (rw e refl) (rw e refl) (rw e refl))
         go l e (Sight.none to b why) =
             simp (step, e)
             (over _ (refuses noTerminal 0 0 to trees (on-blanks way b) no-terminal (λ z. omega arith) (λ z. omega arith) (λ z. omega arith) (λ z. why) (λ z. absurd (omega arith))))

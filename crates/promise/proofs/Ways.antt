@@ -4,21 +4,23 @@ use mathlib.Core.Path.{_≡_, refl, sym, ap, _∙_}
 use mathlib.Core.Bool.{Bool, true, false}
 use mathlib.Core.Logic.{_⊎_, inl, inr}
 use mathlib.Core.List.{List, [], _∷_, _++_, append-assoc, append-nil}
-use Prim.Native.Nat.{ℕ, zero, suc, _+_, _*_, _<_, _≤_}
+use Prim.Native.Nat.{ℕ, zero, suc, _+_, _<_, _≤_}
 use native.Mathlib.Omega.{arith}
 use lib.Dec.{eqb, ltb}
 use lib.ListN.{length, drop, length-drop}
 use borrow.Author.Tests.{eqb-true, eqb-false, ltb-true, ltb-false}
 use Rattle.sets.specs.Sets.{has, meet, several}
 use Rattle.sets.proofs.Laws.{has-none, has-and}
-use Rattle.pack.specs.Image.{groups, layout, act, acc, groupSet, chosen, validSet}
+use Rattle.pack.specs.Image.{groups, act, acc, groupSet, chosen}
 use Rattle.numbers.specs.declared.Verdict.the-variants.{Good}
 use Rattle.rules.specs.Rules.{fits, differs, groupRight}
 use Rattle.shape.specs.Shape.{scannerRules, groupRule, shape}
 use Rattle.shape.proofs.Laws.{both, rule-good, and-then-good, each-at}
 use Rattle.shape.proofs.Good.{good-parts}
+use Rattle.conditions.specs.Conditions.{sought}
 use Rattle.scan.specs.Matching.{Last}
-use Rattle.promise.specs.Cover.{Chosen, alone, grouped, NoMatch, Settled, RightLeaf, Blank, Blanks, none, more, Covers, start, blank, leaf, node}
+use Rattle.parse.specs.Parse.{top}
+use Rattle.promise.specs.Cover.{Chosen, alone, grouped, NoMatch, RightMatch, RightLeaf, Blank, Blanks, none, more, Covers, start, blank, leaf, node}
 use Rattle.promise.specs.Refusal.{NoTerminal, Unexpected, at-end, instead}
 use Rattle.promise.specs.Way.{Token, word, end-of-text, Reached, reached, Acts, skips, shifts, reduces, Way, begin, on}
 use Rattle.scan.proofs.Matching.{same-state, one-last, same-last, some-bytes}
@@ -26,19 +28,19 @@ use Rattle.scan.proofs.Matching.{same-state, one-last, same-last, some-bytes}
 -- A way is a cover, and goes on over pieces of layout. A cover lies within the text.
 pub covers : {img text : List ℕ} {a : Reached} → Way img text a → Covers img text (a .words) (a .place)
 covers begin = start
-covers (on w (skips size b)) = blank size (covers w) b
+covers (on w (skips size b)) = blank size _ (covers w) b
 covers (on w (shifts t size v r e)) = leaf t size _ (covers w) r
 covers (on w (reduces t p v k e l g)) = node p _ (covers w)
 
-pub on-blanks : {img text stack words : List ℕ} {from to : ℕ} → Way img text (reached stack words from) → Blanks img text from to
+pub on-blanks : {img text stack words : List ℕ} {from to : ℕ} → Way img text (reached stack words from) → Blanks img text (top stack) from to
     → Way img text (reached stack words to)
 on-blanks w none = w
 on-blanks w (more size b piece) = on (on-blanks w b) (skips size piece)
 
 pub covers-within : {img text words : List ℕ} {place : ℕ} → Covers img text words place → place ≤ length text
 covers-within start = omega arith
-covers-within {text = text} (blank {place = place} size c b) = let h = covers-within c in omega (arith, b .last .within, length-drop place text)
-covers-within {text = text} (leaf {place = place} t size state c r) = let h = covers-within c in omega (arith, r .last .within, length-drop place text)
+covers-within {text = text} (blank {place = place} size state c b) = let h = covers-within c in omega (arith, b .right .last .within, length-drop place text)
+covers-within {text = text} (leaf {place = place} t size state c r) = let h = covers-within c in omega (arith, r .right .last .within, length-drop place text)
 covers-within (node p state c) = covers-within c
 
 -- From one thing reached to another.
@@ -128,51 +130,50 @@ module _ (img : List ℕ) (good : shape img ≡ Good) where
   one-chosen (grouped g lg e c) (grouped h lh f d) a b = sym c ∙ (ap (λ (x : ℕ). chosen img x) (one-group g h lg lh (e ∙ sym f)) ∙ d)
 
   module _ (text : List ℕ) where
-    -- Two leaves that are right at one place in one state are the same.
-    in-set : {t start size s : ℕ} (r : RightLeaf img text t start size s) → has (meet (acc img (r .q)) (validSet img s)) t ≡ 1
+    -- Two matches that are right at one place in one state are the same; so no leaf begins where a piece of layout does.
+    in-set : {t start size s : ℕ} (r : RightMatch img text t start size s) → has (meet (acc img (r .q)) (sought img s)) t ≡ 1
     in-set {t = t} {s = s} r =
         let a = rw (same-state (r .accepted .leads) (r .last .leads)) at (r .accepted .here) in
-        omega (arith, has-and (acc img (r .q)) (validSet img s) t, a, r .valid)
+        omega (arith, has-and (acc img (r .q)) (sought img s) t, a, r .is-sought)
 
-    one-terminal : {t u start size n s : ℕ} → RightLeaf img text t start size s → RightLeaf img text u start n s → t ≡ u
+    pub one-terminal : {t u start size n s : ℕ} → RightMatch img text t start size s → RightMatch img text u start n s → t ≡ u
     one-terminal r k =
         let e = same-last (k .last) (r .last) in
         one-chosen (r .one) (rw e at (k .one)) (in-set r) (rw e at (in-set k))
 
-    -- Where layout is skipped to its end no piece of it begins; where nothing that is valid matches, no leaf; and nothing at the end.
-    pub no-blank : {place size : ℕ} → Settled img text place → Blank img text place size → ⊥
-    no-blank {size = size} w b =
-        let z = ap (λ (x : ℕ). has x (b .terminal)) (w .only-rejects size (b .q) (b .last)) in
-        let a = rw (same-state (b .accepted .leads) (b .last .leads)) at (b .accepted .here) in
-        omega (arith, z, has-none (b .terminal), has-and (acc img (b .q)) (layout img) (b .terminal), a, b .is-layout)
+    pub no-blank : {t place n size s : ℕ} → RightLeaf img text t place n s → Blank img text s place size → ⊥
+    no-blank r b =
+        let h = rw (← one-terminal (r .right) (b .right)) at (b .is-layout) in
+        omega (arith, h, r .not-layout)
 
-    no-leaf : {t place size s : ℕ} → NoMatch img (drop place text) (validSet img s) → RightLeaf img text t place size s → ⊥
-    no-leaf {t = t} {size = size} n r =
+    -- Where nothing that is sought is matched there is neither; and nothing at the end.
+    pub no-match : {t place size s : ℕ} → NoMatch img (drop place text) (sought img s) → RightMatch img text t place size s → ⊥
+    no-match {t = t} {size = size} n r =
         let z = ap (λ (x : ℕ). has x t) (n .only-rejects size (r .q) (r .last)) in
         omega (arith, z, has-none t, in-set r)
 
     pub no-bytes : {place v n q : ℕ} → length text ≤ place → Last img (drop place text) v n q → ⊥
     no-bytes {place = place} l k = omega (arith, l, k .within, length-drop place text, some-bytes good k)
 
-    no-blank-token : {place size s t : ℕ} → Token img text s place t → Blank img text place size → ⊥
-    no-blank-token (word n r) b = no-blank (r .after-layout) b
-    no-blank-token (end-of-text l) b = no-bytes l (b .last)
+    no-blank-token : {place size s t : ℕ} → Token img text s place t → Blank img text s place size → ⊥
+    no-blank-token (word n r) b = no-blank r b
+    no-blank-token (end-of-text l) b = no-bytes l (b .right .last)
 
     one-token : {place s t u : ℕ} → Token img text s place t → Token img text s place u → t ≡ u
-    one-token (word n r) (word m k) = one-terminal r k
-    one-token (word n r) (end-of-text l) = absurd (no-bytes l (r .last))
-    one-token (end-of-text l) (word n r) = absurd (no-bytes l (r .last))
+    one-token (word n r) (word m k) = one-terminal (r .right) (k .right)
+    one-token (word n r) (end-of-text l) = absurd (no-bytes l (r .right .last))
+    one-token (end-of-text l) (word n r) = absurd (no-bytes l (r .right .last))
     one-token (end-of-text l) (end-of-text k) = refl
 
     -- One step.
     one-step : {a b c : Reached} → Acts img text a b → Acts img text a c → b ≡ c
-    one-step {a} (skips n x) (skips m y) = ap (λ (k : ℕ). reached (a .stack) (a .words) (a .place + k)) (one-last (x .last) (y .last))
-    one-step (skips n x) (shifts t m v r e) = absurd (no-blank (r .after-layout) x)
+    one-step {a} (skips n x) (skips m y) = ap (λ (k : ℕ). reached (a .stack) (a .words) (a .place + k)) (one-last (x .right .last) (y .right .last))
+    one-step (skips n x) (shifts t m v r e) = absurd (no-blank r x)
     one-step (skips n x) (reduces t p v k e l g) = absurd (no-blank-token k x)
-    one-step (shifts t m v r e) (skips n x) = absurd (no-blank (r .after-layout) x)
+    one-step (shifts t m v r e) (skips n x) = absurd (no-blank r x)
     one-step (shifts t n v r e) (shifts u m w k f) =
-        let et = one-terminal r k in
-        let en = one-last (r .last) (k .last) in
+        let et = one-terminal (r .right) (k .right) in
+        let en = one-last (r .right .last) (k .right .last) in
         let f′ = rw (← et) at f in
         let ev : v ≡ w = omega (arith, e, f′) in
         rw (et, en, ev) refl
@@ -212,30 +213,30 @@ module _ (img : List ℕ) (good : shape img ≡ Good) where
     accepts-stops {s} {place} {rest} {words} l e = record { no-step = λ b x. go x }
       where
         go : {b : Reached} → Acts img text (reached (s ∷ rest) words place) b → ⊥
-        go (skips n x) = no-bytes l (x .last)
-        go (shifts t n v r f) = no-bytes l (r .last)
-        go (reduces t p v (word n r) f k g) = no-bytes l (r .last)
+        go (skips n x) = no-bytes l (x .right .last)
+        go (shifts t n v r f) = no-bytes l (r .right .last)
+        go (reduces t p v (word n r) f k g) = no-bytes l (r .right .last)
         go (reduces t p v (end-of-text m) f k g) = omega (arith, e, f)
 
-    unmatched : {s place : ℕ} {rest words : List ℕ} → place < length text → Settled img text place → NoMatch img (drop place text) (validSet img s)
+    unmatched : {s place : ℕ} {rest words : List ℕ} → place < length text → NoMatch img (drop place text) (sought img s)
         → Stops img text (reached (s ∷ rest) words place)
-    unmatched {s} {place} {rest} {words} l w m = record { no-step = λ b x. go x }
+    unmatched {s} {place} {rest} {words} l m = record { no-step = λ b x. go x }
       where
         go : {b : Reached} → Acts img text (reached (s ∷ rest) words place) b → ⊥
-        go (skips n x) = no-blank w x
-        go (shifts t n v r f) = no-leaf m r
-        go (reduces t p v (word n r) f k g) = no-leaf m r
+        go (skips n x) = no-match m (x .right)
+        go (shifts t n v r f) = no-match m (r .right)
+        go (reduces t p v (word n r) f k g) = no-match m (r .right)
         go (reduces t p v (end-of-text h) f k g) = omega (arith, l, h)
 
     pub none-stops : {s place : ℕ} {rest words : List ℕ} → NoTerminal img text s place → Stops img text (reached (s ∷ rest) words place)
-    none-stops n = unmatched (n .before-end) (n .after-layout) (n .none-valid)
+    none-stops n = unmatched (n .before-end) (n .none-sought)
 
     pub other-stops : {s place size terminal : ℕ} {rest words : List ℕ} → Unexpected img text s place size terminal → Stops img text (reached (s ∷ rest) words place)
     other-stops {s} {place} {rest = rest} {words = words} (at-end l e i) = record { no-step = λ b x. go x }
       where
         go : {b : Reached} → Acts img text (reached (s ∷ rest) words place) b → ⊥
-        go (skips n x) = no-bytes l (x .last)
-        go (shifts t n v r f) = no-bytes l (r .last)
-        go (reduces t p v (word n r) f k g) = no-bytes l (r .last)
+        go (skips n x) = no-bytes l (x .right .last)
+        go (shifts t n v r f) = no-bytes l (r .right .last)
+        go (reduces t p v (word n r) f k g) = no-bytes l (r .right .last)
         go (reduces t p v (end-of-text m) f k g) = omega (arith, e, f)
-    other-stops (instead size terminal q l w n last a b c d) = unmatched l w n
+    other-stops (instead size terminal q l n last a b c d) = unmatched l n

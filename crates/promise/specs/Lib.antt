@@ -4,6 +4,8 @@ pub mod Marked
 pub mod Promised
 pub mod Refusal
 pub mod RightLook
+pub mod Ring
 pub mod SmallPack
+pub mod Together
 pub mod Way
 pub mod WrongLooks

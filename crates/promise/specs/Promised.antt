@@ -22,8 +22,8 @@ pub record Accepted (img text words : List ℕ) : Type 0 where
   pub accepts : act img final endOfText ≡ 1
 
 -- Where the parse was refused: the records so far are trees that stand side by side on the stack, and they cover the text up to the
--- place that is given, with leaves that are right; both are made on the way of the tables. With 7 and 8 also what does not match there,
--- past all layout, for the state on top.
+-- place that is given, with leaves that are right; both are made on the way of the tables. With 7 and 8 also what does not match there
+-- for the state on top.
 pub record Refused (img text : List ℕ) (e : Ending) : Type 0 where
   pub state : ℕ
   pub below : List ℕ

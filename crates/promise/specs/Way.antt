@@ -22,10 +22,10 @@ pub record Reached : Type 0 where
 abbrev pub reached : List ℕ → List ℕ → ℕ → Reached
 reached stack words place = record { stack = stack; words = words; place = place }
 
--- One step of the way: a piece of layout; or the action that the state on top has for the token that it sees itself, a shift or a
--- reduction.
+-- One step of the way: a piece of layout, skipped in the state on top; or the action that the state on top has for the token that it sees
+-- itself, a shift or a reduction.
 pub data Acts (img text : List ℕ) (a : Reached) : Reached → Type 0 where
-  skips : (size : ℕ) → Blank img text (a .place) size → Acts img text a (reached (a .stack) (a .words) (a .place + size))
+  skips : (size : ℕ) → Blank img text (top (a .stack)) (a .place) size → Acts img text a (reached (a .stack) (a .words) (a .place + size))
   shifts : (terminal size v : ℕ) → RightLeaf img text terminal (a .place) size (top (a .stack))
       → act img (top (a .stack)) terminal ≡ 2 + 2 * v
       → Acts img text a (reached (v ∷ a .stack) (a .words ++ leafRecord terminal (a .place) size (top (a .stack))) (a .place + size))

@@ -10,9 +10,9 @@ use lib.Bits.{bitAnd, bitOr, and-step, and-comm, and-le-l}
 use borrow.Author.Tests.{lt-leb, leb-false, ltb-true, ltb-false}
 use Rattle.sets.specs.Sets.{has, member, subset, countBelow, several}
 use Rattle.sets.proofs.Laws.{has-lt, has-and, has-or, ext}
-use Rattle.pack.specs.Image.{scanStates, classes, acc, rej, poss, move, validSet}
+use Rattle.pack.specs.Image.{scanStates, classes, acc, rej, poss, move}
 use Rattle.conditions.specs.Tests.{same, implies}
-use Rattle.conditions.specs.Conditions.{Subset, matched, outranked, within, k2, isGroup, settled, k3}
+use Rattle.conditions.specs.Conditions.{Subset, matched, outranked, within, k2, isGroup, sought, settled, k3}
 use Rattle.conditions.specs.Check.{c3, test, inRow, inRows}
 use Rattle.conditions.proofs.TestLaws.{false-true, not-true, all-false, all-true, below-power, member-has, has-member}
 use Rattle.conditions.proofs.WalkLaws.{rest, row-on, row-end}
@@ -93,8 +93,8 @@ together-more img n {set} {a} {c} t ea ec = record { each = λ q l s. go q l s (
         let y : c ≡ acc img q = ec (rw (ea, ← z) s) ∙ ea ∙ ap (λ (k : ℕ). acc img k) (sym z) in
         record { each = λ u h. omega (arith, has-or set c u, has-lt set u, h, ap (λ (k : ℕ). has k u) y) }
 
--- A pair of K3, for what a parse state allows of the terminals that are accepted together with others.
-pub pairs : (img : List ℕ) (s : ℕ) {nq vs crowd : ℕ} → nq ≡ scanStates img → vs ≡ validSet img s → Together img (scanStates img) crowd
+-- A pair of K3, for what a parse state allows, and layout, of the terminals that are accepted together with others.
+pub pairs : (img : List ℕ) (s : ℕ) {nq vs crowd : ℕ} → nq ≡ scanStates img → vs ≡ sought img s → Together img (scanStates img) crowd
     → (q : ℕ) → q < nq → settled img q (bitAnd vs crowd) ≡ test c3 img s q
 unfolding test k3 settled implies
 pairs img s {nq} {vs} {crowd} en ev t q l = rw (← ev) (go (several (acc img q)) refl)

@@ -201,7 +201,7 @@ pub struct Pair {
     pub q: usize,
 }
 
-// Walks parse states s, inside it scan states q, and stops at the first pair at which K3 fails. Of what s allows only those terminals
+// Walks parse states s, inside it scan states q, and stops at the first pair at which K3 fails. Of what s allows and layout only those terminals
 // count that are accepted together with others; where they are fewer than two, no scan state is looked at.
 fn first_pair(img: &[u16]) -> Pair
     requires { ⌜ Laid (now img) ⌝ }
@@ -214,7 +214,7 @@ fn first_pair(img: &[u16]) -> Pair
     let mut s: usize = 0;
     let mut q: usize = 0;
     'states: while s < ns {
-        let v = image::valid_set(img, s) & crowded;
+        let v = (image::valid_set(img, s) | image::layout(img)) & crowded;
         let n = to_look_at(v, nq);
         q = 0;
         while q < n {

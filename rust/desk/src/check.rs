@@ -22,7 +22,7 @@ fn meaning(condition: u32) -> [&'static str; 2] {
             "So a scan could stop before the longest match, and give a shorter word.",
         ],
         3 => [
-            "Several words that a parse state allows and that match the same bytes must be a group, which says which one it is.",
+            "Several words that match the same bytes, each allowed in a parse state or layout, must be a group, which says which one it is.",
             "So a parse could end with code 9, left with several terminals.",
         ],
         4 => [
@@ -112,9 +112,10 @@ impl Checker<'_> {
     }
 
     fn k3(&self, state: usize, scan_state: usize) -> String {
-        let both = self.sets(scan_state)[0] & self.pack.valid(state);
+        let sought = self.pack.valid(state) | self.pack.layout();
+        let both = self.sets(scan_state)[0] & sought;
         format!(
-            "Parse state {state} allows {}, which are all accepted in {}, and no group is just these.",
+            "Parse state {state} looks for {}, which are all accepted in {}, and no group is just these.",
             self.names.all(both, "and"),
             self.scan_state(scan_state)
         )

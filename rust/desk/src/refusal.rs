@@ -84,6 +84,8 @@ pub fn of_query(pack: &Pack, names: &Names, records: Records, refused: &Refused)
     let text = records.text();
     let state = pack.state_on_top(records);
     let valid = state.map_or(Terminals::NONE, |state| pack.valid(state));
+    // What the scans of the state are for.
+    let sought = valid | pack.layout();
     let may_come = format!("Allowed there: {}.", names.allowed(pack, valid));
     let bytes =
         |place: usize, length: usize| word(text.get(place..place + length).unwrap_or_default());
@@ -134,18 +136,20 @@ pub fn of_query(pack: &Pack, names: &Names, records: Records, refused: &Refused)
                 count(length, "byte"),
                 at(text, place)
             );
-            // Only a pack whose possible sets are wrong comes to the second case.
+            // The second case is one of packs whose possible sets are wrong, or whose layout is rejected behind the word by layout.
             let found = match valid.contains(terminal) {
                 false => format!("{found}, which is not allowed there."),
-                true => format!("{found}, which is allowed, but the scan for what is allowed stopped before it."),
+                true => format!("{found}, which is allowed, but the scan for what is allowed and layout does not end with it."),
             };
             let mut told = explained("an unexpected word", (place, length), found);
-            told.hint = valid.contains(terminal).then(|| passes.to_string());
+            told.hint = valid.contains(terminal).then(|| {
+                "The pack does not pass the check, or some of its layout terminals outrank each other.".to_string()
+            });
             told
         }
         Refused::Several { place, length, .. } => {
             let found = pack
-                .scan(text, place, valid, u32::MAX)
+                .scan(text, place, sought, u32::MAX)
                 .ok()
                 .and_then(|scanned| scanned.found);
             let both = names.all(
@@ -248,7 +252,7 @@ fn stuck(pack: &Pack, names: &Names, text: &[u8], place: usize, state: Option<us
     let terminal = if place >= text.len() {
         Some(0)
     } else {
-        let wanted = pack.valid(state) - Terminals::one(0);
+        let wanted = (pack.valid(state) | pack.layout()) - Terminals::one(0);
         let scanned = pack.scan(text, place, wanted, u32::MAX).ok();
         scanned.and_then(|scanned| scanned.found).and_then(|found| {
             let mut groups = (0..pack.sizes().groups).filter_map(|group| pack.group(group));

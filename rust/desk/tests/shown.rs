@@ -139,7 +139,7 @@ fn refused_queries() {
     holds("refused-empty", &["read", "packs/small.pack", ""]);
     holds(
         "refused-allowance",
-        &["read", "packs/small.pack", "tax", "--allowance", "3"],
+        &["read", "packs/small.pack", "tax", "--allowance", "2"],
     );
     holds(
         "refused-room",
@@ -337,6 +337,11 @@ fn packs_that_fail() {
         "scan=0000000000000004,0000000000000000,000000000000000c",
         &["check"],
     );
+    // A blank is a name too.
+    let blank = "scan=0000000000000008,0000000000000000,0000000000000008";
+    let name_too = "scan=000000000000000c,0000000000000000,000000000000000c";
+    changed("fails-k3-layout", blank, name_too, &["check"]);
+    changed("refused-layout", blank, name_too, &["read", " tax"]);
     changed("fails-k4", "act=0,0,8,0", "act=0,0,2,0", &["check"]);
     changed("fails-k4-symbols", "act=0,0,8,0", "act=0,0,6,0", &["check"]);
     changed("fails-k5-goto", "goto=5", "goto=0", &["check"]);
@@ -393,7 +398,7 @@ fn packs_with_two_terminals_for_one_word() {
         check.out
     );
     assert!(
-        check.out.contains("Parse state 2 allows t1 and t2"),
+        check.out.contains("Parse state 2 looks for t1 and t2"),
         "{}",
         check.out
     );

@@ -80,13 +80,22 @@ fn fail_k2(rng: &mut Rng, tables: &mut Tables) -> Option<()> {
     Some(())
 }
 
-/// A parse state sees two terminals that a scan state accepts, and no group has just these.
+/// A scan state accepts two terminals that a parse state sees, or one of which is layout, or both; and no group has just
+/// these.
 fn fail_k3(rng: &mut Rng, tables: &mut Tables) -> Option<()> {
     let s = spot(rng, 0, tables.act.len())?;
     let q = spot(rng, 1, tables.scan.len())?;
     let state = tables.scan[q];
-    for t in sets::members(apart_from(tables, state.acc | state.rej) & !tables.layout).take(2) {
-        if sets::count(tables.scan[q].acc & !tables.layout) < 2 {
+    let wanted = match rng.below(4) {
+        0 => all(tables),
+        1 => tables.layout,
+        _ => all(tables) & !tables.layout,
+    };
+    let mut apart: Vec<usize> =
+        sets::members(apart_from(tables, state.acc | state.rej) & wanted).collect();
+    rng.shuffle(&mut apart);
+    for t in apart.into_iter().take(2) {
+        if sets::count(tables.scan[q].acc & wanted) < 2 {
             tables.scan[q].acc |= sets::single(t);
             tables
                 .scan
@@ -100,7 +109,7 @@ fn fail_k3(rng: &mut Rng, tables: &mut Tables) -> Option<()> {
             tables.act[s][t] = reduce;
         }
     }
-    let seen = tables.scan[q].acc & tables.valid_set(s);
+    let seen = tables.scan[q].acc & (tables.valid_set(s) | tables.layout);
     tables.groups.retain(|&(set, _)| set != seen);
     (sets::count(seen) > 1).then_some(())
 }

@@ -14,7 +14,10 @@ use super::tables::Tables;
 use super::wide;
 use crate::cases::{Case, Image, Text, MOST_BYTES, MOST_TREE, MOST_WORDS};
 use crate::image::{Pack, PROD_SYMBOLS};
-use crate::marked::{image_of, image_with, DEEP_PACK, ENDLESS_PACK, NESTED_EMPTY, NESTED_PACK};
+use crate::marked::{
+    image_of, image_with, BLANK_OR_COMMENT, CIRCLE_PACK, COMMENT_TO_THE_END, DEEP_PACK,
+    ENDLESS_PACK, NESTED_EMPTY, NESTED_PACK, OPERATOR_OR_COMMENT, OPERATOR_PACK, REDUCED_PACK,
+};
 use crate::numbers::{DONE, QUERY_LONG, RECORD_LIMIT, RECORD_WORDS, ROOM_SMALL, SHAPE, TEXT_LIMIT};
 use crate::parse::parse;
 use crate::print::print;
@@ -134,6 +137,9 @@ impl Mix {
         }
         if self.kinds.parse && self.bundles % 20 == 10 {
             return self.deep_bundle();
+        }
+        if self.kinds.parse && self.bundles % 20 == 15 {
+            return self.layout_bundle();
         }
         // A tree need not come from a parse; where nothing else is wanted, three of four are made without one.
         let without_a_parse = match self.kinds {
@@ -633,7 +639,8 @@ impl Mix {
         let long = [leaf(0, 65_535), leaf(1, 65_535), leaf(65_535, 0)].concat();
         let long = [long, vec![64, 7, 3, 0]].concat();
         let damaged = printing::damaged(rng, &long);
-        let records = rng.from_to(RECORD_LIMIT - 1, RECORD_LIMIT + 1);
+        let limit = RECORD_LIMIT;
+        let records = *rng.pick(&[limit - 1, limit, limit, limit + 1]);
         let many = match rng.below(3) {
             0 => printing::tree(rng, length, records),
             1 => printing::chain(rng, length, records - 1),
@@ -807,6 +814,45 @@ impl Mix {
                 tree: (RECORD_WORDS * records + self.rng.below(RECORD_WORDS)) as u32,
                 allowance: u32::MAX,
             });
+        }
+        cases
+    }
+
+    /// The packs in which layout and tokens begin alike, some of them changed, and texts of what they begin with.
+    fn layout_bundle(&mut self) -> Vec<Case> {
+        let mut cases = Vec::new();
+        for _ in 0..2 {
+            let rng = &mut self.rng;
+            let mut pieces: &[&[u8]] = &[b"a", b"//=", b"//", b" ", b"=", b"//a"];
+            let mut image = match rng.below(6) {
+                0 => image_of(OPERATOR_PACK),
+                1 => image_with(OPERATOR_PACK, *rng.pick(&OPERATOR_OR_COMMENT)),
+                2 => image_with(OPERATOR_PACK, *rng.pick(&BLANK_OR_COMMENT)),
+                3 => image_with(OPERATOR_PACK, COMMENT_TO_THE_END),
+                4 => image_of(REDUCED_PACK),
+                _ => {
+                    pieces = &[b"a", b"b"];
+                    image_of(CIRCLE_PACK)
+                }
+            };
+            if rng.once_in(3) {
+                let mut tables = Tables::of(&Pack::new(&image));
+                random::change(rng, &mut tables);
+                image = tables.image();
+            }
+            let count = rng.from_to(0, 8);
+            let text: Vec<&[u8]> = (0..count).map(|_| *rng.pick(pieces)).collect();
+            let text = Rc::new([&b"a"[..rng.below(2)], &text.concat()].concat());
+            let subject = Subject {
+                image: Rc::new(image),
+                language: None,
+            };
+            if self.kinds.check {
+                cases.push(Case::Check {
+                    image: subject.image.clone(),
+                });
+            }
+            self.parses(&subject, &text, &mut cases);
         }
         cases
     }

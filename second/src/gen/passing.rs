@@ -34,6 +34,8 @@ pub struct Language {
     /// By terminal; terminals that match nothing have none.
     pub patterns: Vec<Option<Pattern>>,
     pub layout: Vec<usize>,
+    /// Tokens that begin as some layout does.
+    pub alike: Vec<usize>,
     /// By terminal: those that outrank it.
     pub dom: Vec<Set>,
 }
@@ -119,14 +121,22 @@ fn draft(rng: &mut Rng, scale: Scale, drops: &mut Drops) -> Option<Passing> {
     };
     let method = *rng.pick(&[Method::Lr1, Method::Lalr1, Method::Slr1]);
     let settle = rng.once_in(25);
-    let parse = match lr::build(rng, &grammar, terminals, method, settle) {
+    let mut parse = match lr::build(rng, &grammar, terminals, method, settle) {
         Ok(parse) => parse,
         Err(NoTables::Conflict) => return drops.count("a conflict in the parse tables"),
         Err(NoTables::TooManyStates) => return drops.count("more than 128 parse states"),
     };
 
-    let (patterns, scan) = scanner_draft(rng, terminals, &layout, letters, longest, drops)?;
-    let dom = outranking(rng, terminals, &patterns, &scan);
+    let bounds = (letters, longest);
+    let Drawn {
+        patterns,
+        scan,
+        alike,
+    } = scanner_draft(rng, terminals, &layout, &pool, bounds, drops)?;
+    if !alike.is_empty() && rng.percent(40) {
+        reduce_on_more(&mut parse.act, &alike);
+    }
+    let dom = outranking(rng, terminals, &layout, &patterns, &scan);
     let mut tables = Tables {
         nonterminals: grammar.nonterminals,
         classes: scan.classes,
@@ -176,6 +186,7 @@ fn draft(rng: &mut Rng, scale: Scale, drops: &mut Drops) -> Option<Passing> {
             heights,
             patterns,
             layout,
+            alike,
             dom,
         },
     })
@@ -183,15 +194,22 @@ fn draft(rng: &mut Rng, scale: Scale, drops: &mut Drops) -> Option<Passing> {
 
 type Patterns = Vec<Option<Pattern>>;
 
-/// Patterns for all terminals but 0, and their scan tables.
+/// What is drawn for the scanner: patterns, their tables, and the tokens that begin as some layout does.
+struct Drawn {
+    patterns: Patterns,
+    scan: ScanTables,
+    alike: Vec<usize>,
+}
+
+/// Patterns for all terminals but 0, and their scan tables; `pool` has the terminals of the grammar.
 fn scanner_draft(
     rng: &mut Rng,
     terminals: usize,
     layout: &[usize],
-    letters: usize,
-    longest: usize,
+    pool: &[u16],
+    (letters, longest): (usize, usize),
     drops: &mut Drops,
-) -> Option<(Patterns, ScanTables)> {
+) -> Option<Drawn> {
     // The parse tables are dear, so a few drafts of the patterns are tried.
     for _ in 0..8 {
         let letters = rng.from_to(2.min(letters), letters);
@@ -210,13 +228,23 @@ fn scanner_draft(
             };
             patterns[t] = Some(pattern);
         }
+        let mut alike = Vec::new();
+        if !layout.is_empty() && rng.percent(40) {
+            alike = begin_alike(rng, &alphabet, &mut patterns, layout, pool);
+        }
         let listed: Vec<(usize, Pattern)> = patterns
             .iter()
             .enumerate()
             .filter_map(|(t, pattern)| Some((t, pattern.clone()?)))
             .collect();
         match scanner::build(rng, &listed) {
-            Ok(scan) => return Some((patterns, scan)),
+            Ok(scan) => {
+                return Some(Drawn {
+                    patterns,
+                    scan,
+                    alike,
+                })
+            }
             Err(NoScanner::MatchesEmpty) => drops.count::<()>("a pattern matches the empty text"),
             Err(NoScanner::TooManyStates) => drops.count("more than 128 scan states"),
             Err(NoScanner::TooManyClasses) => drops.count("more than 32 classes"),
@@ -226,10 +254,68 @@ fn scanner_draft(
     None
 }
 
+/// Lets a layout terminal and a token begin alike, and gives such tokens: the token is longer, or the layout, or they are
+/// the same, or only some of their words are. Or two layout terminals are the same.
+fn begin_alike(
+    rng: &mut Rng,
+    alphabet: &Alphabet,
+    patterns: &mut Patterns,
+    layout: &[usize],
+    pool: &[u16],
+) -> Vec<usize> {
+    let sign = *rng.pick(&alphabet.signs);
+    let length = if rng.percent(70) { 2 } else { 1 };
+    let front = Pattern::word(&[sign, sign][..length]);
+    let letters = Pattern::one(alphabet.letters.iter().copied());
+    let digits = Pattern::one(alphabet.digits.iter().copied());
+    let any = Pattern::Either(vec![letters.clone(), digits.clone()]);
+    let with = |more: Pattern| Pattern::Seq(vec![front.clone(), more]);
+    let comment = *rng.pick(layout);
+    let token = usize::from(*rng.pick(pool));
+    let (of_comment, of_token) = match rng.below(6) {
+        0 => (
+            front.clone(),
+            with(Pattern::one([*rng.pick(&alphabet.signs)])),
+        ),
+        1 => (front.clone(), with(letters.opt())),
+        2 => (with(any.plus().opt()), front.clone()),
+        3 => (front.clone(), front.clone()),
+        4 => (with(letters.clone().plus().opt()), with(any.plus().opt())),
+        _ => {
+            let other = *rng.pick(layout);
+            patterns[other] = patterns[comment].clone();
+            return Vec::new();
+        }
+    };
+    patterns[comment] = Some(of_comment);
+    patterns[token] = Some(of_token);
+    // A token that is shorter than both.
+    let other = usize::from(*rng.pick(pool));
+    if other != token && rng.percent(30) {
+        patterns[other] = Some(Pattern::word(&[sign]));
+        return vec![token, other];
+    }
+    vec![token]
+}
+
+/// States that reduce do so on these terminals too, where they have no action, as merged look-ahead makes them. What they
+/// reduce by stays.
+fn reduce_on_more(act: &mut [Vec<u16>], alike: &[usize]) {
+    for row in act {
+        let reduction = row.iter().find(|&&code| code > 1 && code % 2 == 1).copied();
+        for &t in alike {
+            if row[t] == 0 {
+                row[t] = reduction.unwrap_or(0);
+            }
+        }
+    }
+}
+
 /// The terminals that outrank each: mostly words outrank patterns, where both match.
 fn outranking(
     rng: &mut Rng,
     terminals: usize,
+    layout: &[usize],
     patterns: &[Option<Pattern>],
     scan: &ScanTables,
 ) -> Vec<Set> {
@@ -237,6 +323,7 @@ fn outranking(
     let mut dom = vec![sets::EMPTY; terminals];
     let mut decided = Vec::new();
     let eager = *rng.pick(&[20, 75, 95]);
+    let of_layout = *rng.pick(&[0, eager]);
     for &matching in &scan.matching {
         for t in sets::members(matching) {
             for u in sets::members(matching & !sets::below(t + 1)) {
@@ -244,6 +331,10 @@ fn outranking(
                     continue;
                 }
                 decided.push((t, u));
+                let eager = match layout.contains(&t) || layout.contains(&u) {
+                    true => of_layout,
+                    false => eager,
+                };
                 if !rng.percent(eager) {
                     continue;
                 }
@@ -301,13 +392,15 @@ fn scan_sets(scan: &ScanTables, dom: &[Set]) -> Vec<ScanSets> {
     }
 }
 
-/// The sets of several terminals that a parse state and a scan state leave.
+/// The sets of several terminals that a parse state, layout beside it, and a scan state leave; also a state without
+/// actions, since such rows may be added.
 fn needed_groups(tables: &Tables) -> Vec<Set> {
     let mut needed = Vec::new();
-    for s in 0..tables.act.len() {
-        let valid = tables.valid_set(s);
+    let states = (0..tables.act.len()).map(|s| tables.valid_set(s));
+    for valid in states.chain([sets::EMPTY]) {
+        let sought = valid | tables.layout;
         for sets in &tables.scan {
-            let set = sets.acc & valid;
+            let set = sets.acc & sought;
             if sets::count(set) > 1 && !needed.contains(&set) {
                 needed.push(set);
             }

@@ -102,7 +102,11 @@ fn layout(rng: &mut Rng, language: &Language, text: &mut Vec<u8>) {
         return;
     }
     for _ in 0..rng.from_to(1, 2) {
-        let t = *rng.pick(&language.layout);
+        // Now and then a token that begins as layout does, where it may not be due.
+        let t = match language.alike.is_empty() || rng.percent(75) {
+            true => *rng.pick(&language.layout),
+            false => *rng.pick(&language.alike),
+        };
         if let Some(pattern) = &language.patterns[t] {
             pattern.sample(rng, text);
         }

@@ -250,7 +250,7 @@ fn loop_by_shift(rng: &mut Rng, tables: &mut Tables) {
 }
 
 /// The number of different changes that `change` makes.
-const CHANGES: usize = 19;
+const CHANGES: usize = 20;
 
 /// One random change that keeps the shape good. A change that finds nothing to change leaves all as it is.
 pub fn change(rng: &mut Rng, tables: &mut Tables) {
@@ -317,6 +317,11 @@ pub fn change(rng: &mut Rng, tables: &mut Tables) {
         13 if sizes.groups < 32 => {
             let set = rng.set(all, 50);
             push_group(rng, tables, set);
+        }
+        18 if sizes.groups < 32 => {
+            // A group of what some state sees, layout with it.
+            let seen = tables.scan[q].acc & (tables.valid_set(s) | tables.layout);
+            push_group(rng, tables, seen);
         }
         14 => tables.productions[p].lhs = n as u16,
         15 => {

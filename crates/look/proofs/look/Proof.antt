@@ -1,41 +1,87 @@
 use borrow.Author.Needs.{needs}
-use mathlib.Core.Path.{_∙_}
+use mathlib.Core.Path.{_≡_, refl, sym, _∙_}
 use Prim.Native.Nat.{_-_}
-use Rattle.look.proofs.Laws.{look-token, look-spent, look-then, within-stop, within-settled}
+use native.Mathlib.Omega.{arith}
+use lib.ListN.{length}
+use Rattle.look.proofs.Laws.{sought-lt, within-end, look-end, look-token, look-less, look-on}
+use Rattle.look.specs.Inner.{Within}
+use Rattle.look.specs.Look.{look}
 use Rattle.look.proofs.look.Statement.{statement}
 use Rattle.look.proofs.look.Tie as tie
 
-returns : tie.Need-returns
+abbrev Inv-loop : tie.InvT-loop
+Inv-loop img row text known allowance s v here₀ here = Within text allowance here × (look img text allowance s here₀ ≡ look img text allowance s here)
+
+abbrev μ-loop : tie.MeasureT-loop
+μ-loop img row text known allowance s v here₀ here = length text - here .place
+
+returns : tie.Need-returns Inv-loop μ-loop
 returns c =
-    let k = c .before .before in
-    let p = k .before .before .before .before .pre in
+    let p = c .before .before .before .before .before .pre in
     let e = c .refused .ensures in
-    (e ∙ look-spent _ _ _ _ _ (k .before .if1 .taken) (k .skip .ensures .0) (c .before .if2 .taken), (rw e (within-stop _ _ _ _ (k .skip .ensures .1) (p .0 .laid .sized .t-least)), p .1 .0))
+    (e ∙ look-end _ _ _ _ _ (c .before .if1 .taken), (rw e (within-end _ _ _ _ (p .1 .1 .1) (p .0 .laid .sized .t-least)), p .1 .0))
 
-token-requires : tie.Need-token-requires
-token-requires c κs =
-    let k = c .before .before .before in
-    let p = k .before .before .before .before .pre in
-    (p .0, (p .1 .0, (p .1 .1 .0, rw (c .settled .ensures) (within-settled _ _ _ (k .skip .ensures .1)))))
+loop-holds : tie.Need-loop-holds Inv-loop μ-loop
+loop-holds c =
+    (c .before .before .before .before .before .before .pre .1 .1 .1, refl)
 
-returns-2 : tie.Need-returns-2
+piece-requires : tie.Need-piece-requires Inv-loop μ-loop
+piece-requires c κs =
+    let l = c .before .before in
+    let k = l .before in
+    let s = k .before .before .before .before .before .before in
+    (s .pre .0, (l .loop .inv .0, rw (k .sought-set .ensures .0) (sought-lt (s .args .img .now) _ (s .pre .0 .good))))
+
+add-t17 : tie.Need-add-t17 Inv-loop μ-loop
+add-t17 c =
+    let p = c .before .before .before in
+    let s = p .before .before .before .before .before .before .before .before .before .before in
+    omega (arith, p .piece .ensures .1 .place, s .good .1 .1 .0 .0)
+
+loop-less : tie.Need-loop-less Inv-loop μ-loop
+loop-less c =
+    let y = c .before .before in
+    let p = y .before in
+    let i = p .before in
+    let k = i .before .before .before in
+    let m = look-less _ _ _ _ _ (i .if2 .taken) (p .piece .ensures .0 _ (k .sought-set .ensures .0)) (y .is-layout .ensures) (c .before .if3 .taken) in
+    omega (arith, i .if2 .taken, m)
+
+loop-again : tie.Need-loop-again Inv-loop μ-loop
+loop-again c =
+    let y = c .before .before in
+    let p = y .before in
+    let i = p .before in
+    let l = i .before .before in
+    let w = p .piece .ensures .1 in (
+      record { place = w .place; moves = w .moves },
+      l .loop .inv .1
+          ∙ look-on _ _ _ _ _ (i .if2 .taken) (p .piece .ensures .0 _ (l .before .sought-set .ensures .0)) (y .is-layout .ensures) (c .before .if3 .taken),
+    )
+
+returns-2 : tie.Need-returns-2 Inv-loop μ-loop
 returns-2 c =
-    let i = c .before .before .before in
-    let k = i .before in
-    let t = c .token .ensures in
-    (t .0 ∙ rw (c .before .settled .ensures) (look-then _ _ _ _ _ (k .before .if1 .taken) (k .skip .ensures .0) (i .if2 .left)), t .1)
+    let y = c .before in
+    let p = y .before in
+    let i = p .before in
+    let l = i .before .before in
+    let k = l .before .sought-set .ensures in (
+      look-token _ _ _ _ _ (i .if2 .taken) (p .piece .ensures .0 _ (k .0)) (y .is-layout .ensures) (c .if3 .left) ∙ sym (l .loop .inv .1),
+      (p .piece .ensures .1, k .1),
+    )
 
-token-requires-2 : tie.Need-token-requires-2
-token-requires-2 c κs =
-    let p = c .before .before .before .before .pre in
-    (p .0, (p .1 .0, (p .1 .1 .0, p .1 .1 .1)))
-
-returns-3 : tie.Need-returns-3
+returns-3 : tie.Need-returns-3 Inv-loop μ-loop
 returns-3 c =
-    let t = c .token2 .ensures in
-    (t .0 ∙ look-token _ _ _ _ _ (c .before .before .if1 .left), t .1)
+    let i = c .before in
+    let l = i .before .before in
+    let k = l .before in
+    let p = k .before .before .before .before .before .before .pre in
+    let e = c .refused2 .ensures in (
+      e ∙ (look-end _ _ _ _ _ (i .if2 .left) ∙ sym (l .loop .inv .1)),
+      (rw e (within-end _ _ _ _ (l .loop .inv .0) (p .0 .laid .sized .t-least)), k .sought-set .ensures .1),
+    )
 
 pub look-spec : {M : Type 1} → statement M
 look-spec =
     tie.close
-    (tie.spec (λ c κs. search needs) (λ c κs. search needs) returns (λ c κs. search needs) token-requires returns-2 token-requires-2 returns-3)
+    (tie.spec Inv-loop μ-loop (λ c κs. search needs) returns (λ c κs. search needs) loop-holds piece-requires (λ c κs. search needs) add-t17 loop-less loop-again returns-2 (λ c κs. search needs) returns-3)

@@ -1,8 +1,9 @@
 use borrow.Author.Needs.{needs}
-use mathlib.Core.Path.{_≡_, refl, sym, _∙_}
+use mathlib.Core.Path.{_≡_, refl, sym, ap₂, _∙_}
 use mathlib.Core.Bool.{true, false}
 use Prim.Native.Nat.{ℕ, _+_, _-_, _<_, _≤_}
 use native.Mathlib.Omega.{arith}
+use Rattle.sets.specs.Sets.{union}
 use Rattle.pack.specs.Image.{states, scanStates}
 use Rattle.conditions.proofs.WalkLaws.{find-start, rest, rows-end, rows-row, row-on, row-hit}
 use Rattle.conditions.specs.Conditions.{settled}
@@ -42,12 +43,13 @@ states-holds c =
 
 loop-holds : tie.Need-loop-holds Inv-loop μ-loop Inv-states μ-states
 loop-holds c =
-    let s = c .before in
+    let b = c .before in
+    let s = b .before in
     let w = s .before in
     let o = w .before .states .inv in
     let t = w .before .before .together .ensures in
     let e = c .to-look-at .ensures in
-    (search needs, looked _ (e .0) (e .1), o .3, pairs _ _ (o .2) (s .valid-set .ensures) t, others _ (e .0) (e .1) _, o .4 ∙ rows-row _ _ _ _ (w .states-test .taken))
+    (search needs, looked _ (e .0) (e .1), o .3, pairs _ _ (o .2) (ap₂ union (s .valid-set .ensures) (b .layout .ensures)) t, others _ (e .0) (e .1) _, o .4 ∙ rows-row _ _ _ _ (w .states-test .taken))
 
 loop-again : tie.Need-loop-again Inv-loop μ-loop Inv-states μ-states
 loop-again c =
@@ -59,7 +61,7 @@ loop-again c =
 
 states-again : tie.Need-states-again Inv-loop μ-loop Inv-states μ-states
 states-again c =
-    let w = c .before .before .before .before in
+    let w = c .before .before .before .before .before in
     let o = w .before .states .inv in
     let v = c .before .loop .inv in
     let q = c .before .loop .q in
@@ -81,4 +83,4 @@ returns-2 c =
     sym (v .5 ∙ row-hit _ _ _ _ _ m (sym (v .3 _ m) ∙ sym (p .settled .ensures) ∙ c .if1 .left))
 
 pub first-pair-spec : {M : Type 1} → statement M
-first-pair-spec = tie.close (tie.spec Inv-loop μ-loop Inv-states μ-states (λ c κs. search needs) (λ c κs. search needs) (λ c κs. search needs) states-holds (λ c κs. search needs) (λ c κs. search needs) loop-holds (λ c κs. search needs) (λ c. search needs) (λ c. search needs) loop-again (λ c. search needs) (λ c. search needs) states-again returns returns-2)
+first-pair-spec = tie.close (tie.spec Inv-loop μ-loop Inv-states μ-states (λ c κs. search needs) (λ c κs. search needs) (λ c κs. search needs) states-holds (λ c κs. search needs) (λ c κs. search needs) (λ c κs. search needs) loop-holds (λ c κs. search needs) (λ c. search needs) (λ c. search needs) loop-again (λ c. search needs) (λ c. search needs) states-again returns returns-2)
