@@ -1,3 +1,2 @@
-pub mod Quick
-pub mod Rows
-pub mod Shape
+-- The definition of the shape, passed on: its file is in crate `order`, below the crates whose functions test it.
+pub use Rattle.order.specs.Shape

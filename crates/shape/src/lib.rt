@@ -2,37 +2,34 @@
 ghost use mathlib.Core.Path.{_≡_};
 ghost use Rattle.pack.specs.Image.{sizeWords};
 ghost use Rattle.pack.specs.Laid.{Laid};
-ghost use Rattle.shape.specs.Shape.{each, sizeRule, parserRules, scannerRules, shape};
+ghost use Rattle.order.specs.Shape.{each, sizeRule, parserRules, scannerRules, shape};
 use numbers::Verdict;
 use numbers::is_wrong;
+use order::Ruled;
 use pack::image;
-use tables::Ruled;
-
-mod quick; // quick.rt: passes that only say whether all is well
-mod tables; // tables.rt: the verdict on an entry, a row or a table
 
 // The tables of the parser: layout, dom, prod, act and goto.
 fn parser_rules(img: &[u16]) -> Verdict
     requires { ⌜ Laid (now img) ⌝ }
     ensures { λ r. ⌜ r ≡ parserRules (now (img .entry)) ⌝ }
 {
-    let layout = tables::layout_rule(img);
+    let layout = exact::layout_rule(img);
     if is_wrong(layout) {
         return layout;
     }
-    let dom = tables::doms(img);
+    let dom = exact::doms(img);
     if is_wrong(dom) {
         return dom;
     }
-    let prod = tables::rows(img, Ruled::Prod, image::productions(img));
+    let prod = exact::rows(img, Ruled::Prod, image::productions(img));
     if is_wrong(prod) {
         return prod;
     }
-    let act = tables::acts(img);
+    let act = exact::acts(img);
     if is_wrong(act) {
         return act;
     }
-    tables::gotos(img)
+    exact::gotos(img)
 }
 
 // The tables of the scanner: class, move, scan and group.
@@ -40,33 +37,33 @@ fn scanner_rules(img: &[u16]) -> Verdict
     requires { ⌜ Laid (now img) ⌝ }
     ensures { λ r. ⌜ r ≡ scannerRules (now (img .entry)) ⌝ }
 {
-    let class = tables::rows(img, Ruled::Class, image::ranges(img));
+    let class = exact::rows(img, Ruled::Class, image::ranges(img));
     if is_wrong(class) {
         return class;
     }
-    let moves = tables::moves(img);
+    let moves = exact::moves(img);
     if is_wrong(moves) {
         return moves;
     }
-    let scan = tables::scans(img);
+    let scan = exact::scans(img);
     if is_wrong(scan) {
         return scan;
     }
-    tables::rows(img, Ruled::Group, image::groups(img))
+    exact::rows(img, Ruled::Group, image::groups(img))
 }
 
 // The eight sizes of any words: all within their limits, or the place of the first that is not.
 pub fn sizes(img: &[u16]) -> Verdict
     ensures { λ r. ⌜ r ≡ each (sizeRule (now (img .entry))) sizeWords 1 ⌝ }
 {
-    tables::sizes(img)
+    head::sizes(img)
 }
 
 // The shape of any words: good, or the place of the first wrong one.
 pub fn shape(img: &[u16]) -> Verdict
     ensures { λ r. ⌜ r ≡ shape (now (img .entry)) ⌝ }
 {
-    let head = tables::head(img);
+    let head = head::head(img);
     if is_wrong(head) {
         return head;
     }

@@ -1,8 +1,8 @@
 use borrow.Author.Needs.{needs}
 use mathlib.Core.Path.{refl}
 use native.Mathlib.Omega.{arith}
-use Rattle.shape.specs.Rows.{rowsOf}
-use Rattle.shape.proofs.Laws.{parser-1, parser-2, parser-3, parser-4, parser-5}
+use Rattle.order.specs.Rows.{rowsOf}
+use Rattle.order.proofs.Laws.{parser-1, parser-2, parser-3, parser-4, parser-5}
 use Rattle.shape.proofs.parser_rules.Statement.{statement}
 use Rattle.shape.proofs.parser_rules.Tie as tie
 

@@ -1,8 +1,8 @@
 use borrow.Author.Needs.{needs}
 use mathlib.Core.Path.{refl}
 use native.Mathlib.Omega.{arith}
-use Rattle.shape.specs.Rows.{rowsOf}
-use Rattle.shape.proofs.Laws.{scanner-1, scanner-2, scanner-3, scanner-4}
+use Rattle.order.specs.Rows.{rowsOf}
+use Rattle.order.proofs.Laws.{scanner-1, scanner-2, scanner-3, scanner-4}
 use Rattle.shape.proofs.scanner_rules.Statement.{statement}
 use Rattle.shape.proofs.scanner_rules.Tie as tie
 

@@ -1,5 +1,5 @@
 use borrow.Author.Needs.{needs}
-use Rattle.shape.proofs.Laws.{shape-1, shape-laid, shape-2, shape-3}
+use Rattle.order.proofs.Laws.{shape-1, shape-laid, shape-2, shape-3}
 use Rattle.shape.proofs.shape.Statement.{statement}
 use Rattle.shape.proofs.shape.Tie as tie
 

@@ -1,0 +1,249 @@
+// Quick passes over the tables. Each says only whether all is well: where it says no, the exact walk of crate `exact` gives the place. So a
+// pass promises something only where it says yes. Where a table is large its pass has no way out before the end, so that the compiler can
+// take many words at once.
+use pack::image;
+ghost use mathlib.Core.Path.{_≡_};
+ghost use mathlib.Core.Bool.{true, false};
+ghost use Prim.Native.Nat.{ℕ, _+_, _*_, _%_, _<_, _≤_};
+ghost use lib.ListN.{length, getD};
+ghost use Rattle.sets.specs.Sets.{member};
+ghost use Rattle.numbers.specs.declared.Verdict.the-variants.{Good};
+ghost use Rattle.order.specs.declared.Ruled.the-variants.{Dom, Act, Scan};
+ghost use Rattle.pack.specs.Image.{setWords, terminals, states, scanStates, dom, act};
+ghost use Rattle.pack.specs.Laid.{Laid};
+ghost use Rattle.order.specs.Quick.{Above, sum, accept, greatest, strange, First, Shut, Parts, Apart};
+ghost use Rattle.order.specs.Rows.{rowRule};
+ghost use Rattle.order.specs.Shape.{each};
+
+fn larger(a: u16, b: u16) -> u16
+    ensures { λ r. ⌜ (a ≤ r) × (b ≤ r) ⌝ }
+{
+    if a < b { b } else { a }
+}
+
+// No word is above it.
+pub fn largest(words: &[u16]) -> usize
+    ensures { λ r. ⌜ Above (now (words .entry)) r ⌝ }
+{
+    let mut top: u16 = 0;
+    let mut i: usize = 0;
+    while i < words.len() {
+        top = larger(top, words[i]);
+        i += 1;
+    }
+    top as usize
+}
+
+// 1 where an action code accepts.
+fn accept(code: u16) -> u16
+    ensures { λ r. ⌜ (r ≡ accept code) × (r ≤ 1) ⌝ }
+{
+    if code == 1 {
+        return 1;
+    }
+    0
+}
+
+// The greatest code that names a state, for an even one, or a production.
+fn greatest(code: u16, shifts: u16, reductions: u16) -> u16
+    ensures { λ r. ⌜ r ≡ greatest shifts reductions code ⌝ }
+{
+    if code % 2 == 0 {
+        return shifts;
+    }
+    reductions
+}
+
+// 1 where a code accepts, or names no state or production.
+fn strange(code: u16, shifts: u16, reductions: u16) -> u16
+    ensures { λ r. ⌜ (r ≡ strange shifts reductions code) × (r ≤ 1) ⌝ }
+{
+    if greatest(code, shifts, reductions) < code {
+        return 1;
+    }
+    accept(code)
+}
+
+// How many of the codes are strange.
+fn tally(words: &[u16], shifts: u16, reductions: u16) -> u16
+    requires { ⌜ length (now words) < 65536 ⌝ }
+    ensures { λ r. ⌜ r ≡ sum (λ i. strange shifts reductions (getD (now (words .entry)) i 0)) (length (now (words .entry))) ⌝ }
+{
+    let mut n: u16 = 0;
+    let mut i: usize = 0;
+    while i < words.len() {
+        n += strange(words[i], shifts, reductions);
+        i += 1;
+    }
+    n
+}
+
+// Whether a code shifts.
+fn is_shift(code: u16) -> bool
+    ensures { λ r. ⌜ (r ≡ false → code % 2 ≡ 0 → code ≡ 0) ⌝ }
+{
+    if code % 2 == 0 {
+        return 0 < code;
+    }
+    false
+}
+
+// Whether column 0 has no shift, and so many accepts.
+fn first_column(img: &[u16], most: u16) -> bool
+    requires { ⌜ Laid (now img) ⌝ }
+    ensures { λ r. ⌜ (r ≡ true → First (now (img .entry)) most) ⌝ }
+{
+    let rows = image::states(img);
+    let mut n: u16 = 0;
+    let mut s: usize = 0;
+    while s < rows {
+        let code = img[image::act_at(img, s, 0)];
+        if is_shift(code) {
+            return false;
+        }
+        n += accept(code);
+        s += 1;
+    }
+    most <= n
+}
+
+// Whether a column has errors only.
+fn empty_column(img: &[u16], t: usize) -> bool
+    requires { ⌜ Laid (now img) ⌝ }
+    requires { ⌜ t < terminals (now img) ⌝ }
+    ensures { λ r. ⌜ (r ≡ true → (s : ℕ) → s < states (now (img .entry)) → act (now (img .entry)) s t ≡ 0) ⌝ }
+{
+    let rows = image::states(img);
+    let mut s: usize = 0;
+    while s < rows {
+        if image::act(img, s, t) == 0 {
+            s += 1;
+        } else {
+            return false;
+        }
+    }
+    true
+}
+
+// Whether a column has errors only, where it is a layout column.
+fn right_column(img: &[u16], set: u64, t: usize) -> bool
+    requires { ⌜ Laid (now img) ⌝ }
+    requires { ⌜ t < terminals (now img) ⌝ }
+    ensures { λ r. ⌜ (r ≡ true → member set t ≡ true → (s : ℕ) → s < states (now (img .entry)) → act (now (img .entry)) s t ≡ 0) ⌝ }
+{
+    if sets::member(set, t) {
+        return empty_column(img, t);
+    }
+    true
+}
+
+// Whether each layout column has errors only.
+fn layout_columns(img: &[u16]) -> bool
+    requires { ⌜ Laid (now img) ⌝ }
+    ensures { λ r. ⌜ (r ≡ true → Shut (now (img .entry))) ⌝ }
+{
+    let set = image::layout(img);
+    let width = image::terminals(img);
+    let mut t: usize = 0;
+    while t < width {
+        if right_column(img, set, t) {
+            t += 1;
+        } else {
+            return false;
+        }
+    }
+    true
+}
+
+// Whether every action code is right. All strange codes are accepts of column 0 where there are no more of the former.
+pub fn acts(img: &[u16]) -> bool
+    requires { ⌜ Laid (now img) ⌝ }
+    ensures { λ r. ⌜ (r ≡ true → each (rowRule (now (img .entry)) Act) (states (now (img .entry))) 0 ≡ Good) ⌝ }
+{
+    let shifts = (image::states(img) * 2) as u16;
+    let reductions = (image::productions(img) * 2 + 1) as u16;
+    let start = image::act_start(img);
+    let end = image::goto_start(img);
+    if first_column(img, tally(&img[start..end], shifts, reductions)) {
+        return layout_columns(img);
+    }
+    false
+}
+
+// What is in some of n sets, the first at a place.
+fn union(img: &[u16], start: usize, n: usize) -> u64
+    requires { ⌜ start + n * setWords ≤ length (now img) ⌝ }
+    ensures { λ r. ⌜ Parts (now (img .entry)) start n r ⌝ }
+{
+    let mut all: u64 = 0;
+    let mut k: usize = 0;
+    while k < n {
+        all = all | image::set_at(img, start + k * image::SET_WORDS);
+        k += 1;
+    }
+    all
+}
+
+// Whether no terminal outranks itself.
+fn none_itself(img: &[u16]) -> bool
+    requires { ⌜ Laid (now img) ⌝ }
+    ensures { λ r. ⌜ (r ≡ true → (t : ℕ) → t < terminals (now (img .entry)) → member (dom (now (img .entry)) t) t ≡ false) ⌝ }
+{
+    let n = image::terminals(img);
+    let mut t: usize = 0;
+    while t < n {
+        if sets::member(image::dom(img, t), t) {
+            return false;
+        }
+        t += 1;
+    }
+    true
+}
+
+// Whether every set of terminals that outrank another is right.
+pub fn doms(img: &[u16]) -> bool
+    requires { ⌜ Laid (now img) ⌝ }
+    ensures { λ r. ⌜ (r ≡ true → each (rowRule (now (img .entry)) Dom) (terminals (now (img .entry))) 0 ≡ Good) ⌝ }
+{
+    if rules::fits(img, union(img, image::DOM_START, image::terminals(img))) {
+        if rules::dom_right(img, 0) {
+            return none_itself(img);
+        }
+    }
+    false
+}
+
+// Whether no scan state accepts what it rejects.
+fn all_apart(img: &[u16]) -> bool
+    requires { ⌜ Laid (now img) ⌝ }
+    ensures { λ r. ⌜ (r ≡ true → Apart (now (img .entry))) ⌝ }
+{
+    let n = image::scan_states(img);
+    let mut q: usize = 0;
+    while q < n {
+        if image::acc(img, q) & image::rej(img, q) == 0 {
+            q += 1;
+        } else {
+            return false;
+        }
+    }
+    true
+}
+
+// Whether the sets of every scan state are right.
+pub fn scans(img: &[u16]) -> bool
+    requires { ⌜ Laid (now img) ⌝ }
+    ensures { λ r. ⌜ (r ≡ true → each (rowRule (now (img .entry)) Scan) (scanStates (now (img .entry))) 0 ≡ Good) ⌝ }
+{
+    if rules::fits(
+        img,
+        union(img, image::scan_start(img), 3 * image::scan_states(img)),
+    ) {
+        if rules::acc_right(img, 0) {
+            if rules::rej_right(img, 0) {
+                return all_apart(img);
+            }
+        }
+    }
+    false
+}
