@@ -14,11 +14,12 @@ use Rattle.numbers.proofs.Laws.{answer, deliver-none, deliver-all}
 use Rattle.parse.specs.Parse.{recordWords}
 use Rattle.print.specs.Print.{Tree, leaf, depth, show, Standing, nothing, standing, notOneTree, tooDeep, mostNodes, greatestNumber, told, printTree, printOne, print}
 use Rattle.print.proofs.Records.{left-over}
-use Rattle.printer.specs.declared.measure.Measured.{Measured}
+use Rattle.measure.specs.declared.Measured.{Measured}
 use Rattle.printer.specs.declared.walk.Cursor.{Cursor}
-use Rattle.printer.specs.Steps.{Sound, treeAt, treesBefore, heightOf, Measures, Room, Prints}
-use Rattle.printer.proofs.Heights.{height-some, height-sound}
-use Rattle.printer.proofs.Trees.{at-end}
+use Rattle.measure.specs.Steps.{Sound, treeAt, treesBefore, heightOf, Measures}
+use Rattle.printer.specs.Steps.{Room, Prints}
+use Rattle.measure.proofs.Heights.{height-some, height-sound}
+use Rattle.measure.proofs.Trees.{at-end}
 
 -- These are the answer and the buffer of a printout.
 abbrev pub Gives : Delivery → List ℕ → List ℕ → Answer → Type 0

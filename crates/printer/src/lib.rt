@@ -5,7 +5,6 @@ ghost use lib.ListN.{length};
 ghost use Rattle.numbers.specs.Front.{bufferAfter};
 ghost use Rattle.print.specs.Print.{print};
 
-mod measure; // measure.rt: whether the records are one tree, how deep it is, and the size of its printout
 mod put; // put.rt: bytes and numbers, each in front of what was written before
 mod walk; // walk.rt: nodes and children
 

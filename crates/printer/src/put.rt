@@ -1,15 +1,16 @@
 // Bytes and numbers, each written so that it ends at a place of the buffer. The place where it begins comes back.
-use crate::measure::RECORD_WORDS;
-use crate::measure::leaf_bytes;
-use crate::measure::special;
-use crate::measure::word;
+use measure::RECORD_WORDS;
+use measure::leaf_bytes;
+use measure::special;
+use measure::word;
 ghost use mathlib.Core.Path.{_≡_};
 ghost use mathlib.Core.List.{[], _∷_};
 ghost use Prim.Native.Nat.{_+_, _*_, _<_, _≤_};
 ghost use lib.ListN.{length};
 ghost use Rattle.text.specs.Decimal.{decimal};
 ghost use Rattle.print.specs.Print.{escapedByte, escaped, show};
-ghost use Rattle.printer.specs.Steps.{leafOf, Room, Wrote};
+ghost use Rattle.measure.specs.Steps.{leafOf};
+ghost use Rattle.printer.specs.Steps.{Room, Wrote};
 
 // One byte.
 pub fn put(out: &mut [u8], to: usize, b: u8) -> usize

@@ -1,14 +1,15 @@
 // A node prints its children, and each child prints itself: from the last record backwards, and from the end of the printout.
-use crate::measure::RECORD_WORDS;
-use crate::measure::word;
 use crate::put::put;
 use crate::put::put_leaf;
 use crate::put::put_number;
+use measure::RECORD_WORDS;
+use measure::word;
 ghost use mathlib.Core.Path.{_≡_};
 ghost use mathlib.Core.Bool.{true};
 ghost use Prim.Native.Nat.{_+_};
 ghost use Rattle.print.specs.Print.{show, showEach};
-ghost use Rattle.printer.specs.Steps.{Sound, treeAt, treesBefore, lastOf, Room, Prints};
+ghost use Rattle.measure.specs.Steps.{Sound, treeAt, treesBefore, lastOf};
+ghost use Rattle.printer.specs.Steps.{Room, Prints};
 
 // How many records are left, and the place where what was printed begins.
 pub struct Cursor {

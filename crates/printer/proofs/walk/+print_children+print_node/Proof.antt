@@ -1,6 +1,6 @@
 use mathlib.Core.Path.{_∙_}
 use native.Mathlib.Omega.{arith}
-use Rattle.printer.proofs.Trees.{sound-less}
+use Rattle.measure.proofs.Trees.{sound-less}
 use Rattle.printer.proofs.Walks.{Printing, print-leaf-room, print-leaf-done, print-end-room, print-kids-enough, print-kids-room, print-number-room, print-begin-room, print-node-done, printing-start, printing-end, child-left, child-fewer, child-is-sound, child-room, blank-room, printing-on}
 use Prim.Native.Nat.{ℕ, _+_, _*_, _<_}
 use borrow.Fn.Kinds.{In}
@@ -11,7 +11,7 @@ use Rattle.printer.proofs.walk.+print_children+print_node.Lts-print_chi
 use Rattle.printer.proofs.walk.print_node.Reads as print-node
 use Rattle.printer.proofs.walk.print_node.Kinds as print-node-kinds
 use Rattle.printer.proofs.walk.+print_children+print_node.Lts-print_node as print-node-lts
-use Rattle.printer.proofs.measure.word.Reads as word-reads
+use Rattle.measure.proofs.word.Reads as word-reads
 use Rattle.printer.proofs.put.put.Reads as put-reads
 use Rattle.printer.proofs.put.put_leaf.Reads as put-leaf-reads
 use Rattle.printer.proofs.put.put_number.Reads as put-number-reads

@@ -1,7 +1,7 @@
-use Rattle.printer.proofs.Heights.{height-wrong, height-leaf, height-short, height-node}
+use Rattle.measure.proofs.Heights.{height-wrong, height-leaf, height-short, height-node}
 use borrow.Author.Needs.{needs}
-use Rattle.printer.proofs.measure.height_after.Statement.{statement}
-use Rattle.printer.proofs.measure.height_after.Tie as tie
+use Rattle.measure.proofs.height_after.Statement.{statement}
+use Rattle.measure.proofs.height_after.Tie as tie
 
 returns : tie.Need-returns
 returns c = height-wrong _ _ _ (c .if1 .taken)

@@ -12,7 +12,7 @@ use Rattle.parse.specs.Parse.{recordWords}
 use Rattle.print.specs.Print.{Tree, leaf, node, Trees, none, more, Standing, nothing, Taken, takeOff, oneMore, standing}
 use Rattle.print.proofs.Records.{both-right, is-leaf, is-node, sound-before, sound-first, standing-append, sound-start}
 use Rattle.print.proofs.Taken.{take-some, take-next}
-use Rattle.printer.specs.Steps.{upTo, Sound, treeAt, treesBefore, lastOf, leafOf, Back}
+use Rattle.measure.specs.Steps.{upTo, Sound, treeAt, treesBefore, lastOf, leafOf, Back}
 
 module _ (text tree : List ℕ) where
   -- Before the first record nothing stands.

@@ -1,7 +1,7 @@
 use mathlib.Core.Path.{refl}
-use Rattle.printer.proofs.Bytes.{special-open, special-close, special-other}
-use Rattle.printer.proofs.measure.special.Statement.{statement}
-use Rattle.printer.proofs.measure.special.Tie as tie
+use Rattle.measure.proofs.Escaped.{special-open, special-close, special-other}
+use Rattle.measure.proofs.special.Statement.{statement}
+use Rattle.measure.proofs.special.Tie as tie
 
 returns : tie.Need-returns
 returns c = special-open _ (c .if1 .taken)

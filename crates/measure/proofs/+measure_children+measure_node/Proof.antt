@@ -1,22 +1,22 @@
 use native.Mathlib.Omega.{arith}
 use borrow.Author.Needs.{needs}
-use Rattle.printer.proofs.Trees.{sound-less, node-enough}
-use Rattle.printer.proofs.Walks.{Measuring, measure-leaf, measure-over, measure-done, measuring-start, measuring-end, kid-left, kid-fewer, kid-sound, measuring-deep, measuring-on}
+use Rattle.measure.proofs.Trees.{sound-less, node-enough}
+use Rattle.measure.proofs.Measures.{Measuring, measure-leaf, measure-over, measure-done, measuring-start, measuring-end, kid-left, kid-fewer, kid-sound, measuring-deep, measuring-on}
 use Prim.Native.Nat.{ℕ, _+_, _*_, _<_}
 use borrow.Fn.Kinds.{In}
 use borrow.Fn.PlainCycle.{Measures, is, falls, and}
-use Rattle.printer.proofs.measure.measure_children.Reads as measure-children
-use Rattle.printer.proofs.measure.measure_children.Kinds as measure-children-kinds
-use Rattle.printer.proofs.measure.+measure_children+measure_node.Lts-measure_children as measure-children-lts
-use Rattle.printer.proofs.measure.measure_node.Reads as measure-node
-use Rattle.printer.proofs.measure.measure_node.Kinds as measure-node-kinds
-use Rattle.printer.proofs.measure.+measure_children+measure_node.Lts-measure_node as measure-node-lts
-use Rattle.printer.proofs.measure.plus.Reads as plus-reads
-use Rattle.printer.proofs.measure.with_leaf.Reads as with-leaf-reads
-use Rattle.printer.proofs.measure.with_number.Reads as with-number-reads
-use Rattle.printer.proofs.measure.word.Reads as word-reads
-use Rattle.printer.proofs.measure.+measure_children+measure_node.{statement}
-use Rattle.printer.proofs.measure.+measure_children+measure_node.Tie.{close}
+use Rattle.measure.proofs.measure_children.Reads as measure-children
+use Rattle.measure.proofs.measure_children.Kinds as measure-children-kinds
+use Rattle.measure.proofs.+measure_children+measure_node.Lts-measure_children as measure-children-lts
+use Rattle.measure.proofs.measure_node.Reads as measure-node
+use Rattle.measure.proofs.measure_node.Kinds as measure-node-kinds
+use Rattle.measure.proofs.+measure_children+measure_node.Lts-measure_node as measure-node-lts
+use Rattle.measure.proofs.plus.Reads as plus-reads
+use Rattle.measure.proofs.with_leaf.Reads as with-leaf-reads
+use Rattle.measure.proofs.with_number.Reads as with-number-reads
+use Rattle.measure.proofs.word.Reads as word-reads
+use Rattle.measure.proofs.+measure_children+measure_node.{statement}
+use Rattle.measure.proofs.+measure_children+measure_node.Tie.{close}
 
 abbrev μ-measure-children : Measures 2 measure-children-kinds.ps ℕ
 μ-measure-children κs a = a .1 .1 .0 * 2

@@ -1,15 +1,15 @@
 use native.Mathlib.Omega.{arith}
 use borrow.Author.Needs.{needs}
-use Rattle.printer.proofs.Sizes.{number-last, number-more}
+use Rattle.measure.proofs.Sizes.{number-last, number-more}
 use Prim.Native.Nat.{ℕ, _<_}
 use borrow.Fn.Kinds.{In}
 use borrow.Fn.PlainCycle.{Measures, is, falls, and}
-use Rattle.printer.proofs.measure.with_number.Reads as with-number
-use Rattle.printer.proofs.measure.with_number.Kinds as with-number-kinds
-use Rattle.printer.proofs.measure.+with_number.Lts-with_number as with-number-lts
-use Rattle.printer.proofs.measure.plus.Reads as plus-reads
-use Rattle.printer.proofs.measure.+with_number.{statement}
-use Rattle.printer.proofs.measure.+with_number.Tie.{close}
+use Rattle.measure.proofs.with_number.Reads as with-number
+use Rattle.measure.proofs.with_number.Kinds as with-number-kinds
+use Rattle.measure.proofs.+with_number.Lts-with_number as with-number-lts
+use Rattle.measure.proofs.plus.Reads as plus-reads
+use Rattle.measure.proofs.+with_number.{statement}
+use Rattle.measure.proofs.+with_number.Tie.{close}
 
 abbrev μ-with-number : Measures 0 with-number-kinds.ps ℕ
 μ-with-number κs a = a .1 .0

@@ -7,8 +7,8 @@ use lib.ListN.{length, getD, drop, length-append}
 use Rattle.text.specs.Decimal.{decimal}
 use Rattle.text.proofs.Decimal.{decimal-one, decimal-more}
 use Rattle.print.specs.Print.{leaf, node, Trees, escapedByte, escaped, show, showEach}
-use Rattle.printer.specs.Steps.{upBy}
-use Rattle.printer.proofs.Bytes.{escaped-at, escaped-end, escaped-longer}
+use Rattle.measure.specs.Steps.{upBy}
+use Rattle.measure.proofs.Escaped.{escaped-at, escaped-end, escaped-longer}
 
 -- ---- the digits of a number
 module _ (size n : ℕ) where

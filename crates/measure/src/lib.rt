@@ -6,7 +6,7 @@ ghost use Prim.Native.Nat.{ℕ, _+_, _*_, _<_, _≤_};
 ghost use lib.ListN.{length, getD};
 ghost use Rattle.text.specs.Decimal.{decimal};
 ghost use Rattle.print.specs.Print.{special, escapedByte, escaped, show, showEach, depth, depths, standing, nothing};
-ghost use Rattle.printer.specs.Steps.{Sound, treeAt, treesBefore, lastOf, bytesOf, leafOf, heightAfter, heightOf, upBy, Measures};
+ghost use Rattle.measure.specs.Steps.{Sound, treeAt, treesBefore, lastOf, bytesOf, leafOf, heightAfter, heightOf, upBy, Measures};
 
 pub const RECORD_WORDS: usize = 4;
 

@@ -1,9 +1,9 @@
 use mathlib.Core.Path.{sym, ap}
 use lib.ListN.{length}
-use Rattle.printer.proofs.Bytes.{escaped-special, escaped-plain}
+use Rattle.measure.proofs.Escaped.{escaped-special, escaped-plain}
 use borrow.Author.Needs.{needs}
-use Rattle.printer.proofs.measure.width.Statement.{statement}
-use Rattle.printer.proofs.measure.width.Tie as tie
+use Rattle.measure.proofs.width.Statement.{statement}
+use Rattle.measure.proofs.width.Tie as tie
 
 special-requires : tie.Need-special-requires
 special-requires c κs = search needs

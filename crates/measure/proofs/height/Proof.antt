@@ -3,9 +3,9 @@ use Prim.Native.Nat.{_+_, _*_, _-_, _≤_}
 use lib.ListN.{length}
 use native.Mathlib.Omega.{arith}
 use borrow.Author.Needs.{needs}
-use Rattle.printer.proofs.Heights.{Counted, count-start, over-height, count-end, count-wrong, count-on}
-use Rattle.printer.proofs.measure.height.Statement.{statement}
-use Rattle.printer.proofs.measure.height.Tie as tie
+use Rattle.measure.proofs.Heights.{Counted, count-start, over-height, count-end, count-wrong, count-on}
+use Rattle.measure.proofs.height.Statement.{statement}
+use Rattle.measure.proofs.height.Tie as tie
 
 abbrev Inv-loop : tie.InvT-loop
 Inv-loop tree n h₀ i₀ h i = (i ≤ n) × Counted tree i h

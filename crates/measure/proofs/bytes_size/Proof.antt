@@ -2,10 +2,10 @@ use Prim.Native.Nat.{_-_, _≤_}
 use native.Mathlib.Omega.{arith}
 use borrow.Author.Needs.{needs}
 use lib.ListN.{length, getD}
-use Rattle.printer.proofs.Bytes.{escaped-longer}
-use Rattle.printer.proofs.Sizes.{Sized, sized-start, sized-on, sized-end}
-use Rattle.printer.proofs.measure.bytes_size.Statement.{statement}
-use Rattle.printer.proofs.measure.bytes_size.Tie as tie
+use Rattle.measure.proofs.Escaped.{escaped-longer}
+use Rattle.measure.proofs.Sizes.{Sized, sized-start, sized-on, sized-end}
+use Rattle.measure.proofs.bytes_size.Statement.{statement}
+use Rattle.measure.proofs.bytes_size.Tie as tie
 
 abbrev Inv-loop : tie.InvT-loop
 Inv-loop bytes size₀ i₀ size i = (i ≤ length bytes) × Sized bytes i size

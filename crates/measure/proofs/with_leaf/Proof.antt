@@ -3,10 +3,10 @@ use mathlib.Core.List.{List}
 use Prim.Native.Nat.{ℕ}
 use lib.ListN.{length}
 use Rattle.print.specs.Print.{escaped}
-use Rattle.printer.proofs.Sizes.{leaf-sized}
+use Rattle.measure.proofs.Sizes.{leaf-sized}
 use borrow.Author.Needs.{needs}
-use Rattle.printer.proofs.measure.with_leaf.Statement.{statement}
-use Rattle.printer.proofs.measure.with_leaf.Tie as tie
+use Rattle.measure.proofs.with_leaf.Statement.{statement}
+use Rattle.measure.proofs.with_leaf.Tie as tie
 
 leaf-bytes-requires : tie.Need-leaf-bytes-requires
 leaf-bytes-requires c κs = search needs

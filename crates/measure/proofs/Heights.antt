@@ -12,8 +12,8 @@ use Rattle.parse.specs.Parse.{recordWords}
 use Rattle.print.specs.Print.{none, Standing, nothing, wrong, oneMore, standing}
 use Rattle.print.proofs.Records.{false-true, Way, wrongs, leaves, nodes, way, withNode, left-over, sound-start}
 use Rattle.print.proofs.Taken.{take-enough, take-short, take-rest}
-use Rattle.printer.specs.Steps.{upTo, heightAfter, heightOf}
-use Rattle.printer.proofs.Trees.{from-there, at-end, step}
+use Rattle.measure.specs.Steps.{upTo, heightAfter, heightOf}
+use Rattle.measure.proofs.Trees.{from-there, at-end, step}
 
 -- ---- the four ways of `height_after`
 module _ (first third height : ℕ) where

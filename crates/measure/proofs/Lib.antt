@@ -1,0 +1,5 @@
+pub mod Escaped
+pub mod Heights
+pub mod Measures
+pub mod Sizes
+pub mod Trees
