@@ -702,7 +702,7 @@ static struct row scan_row(const char *what, const struct image *image, const ui
                         .per_second = 1e9 / (double)bytes};
 }
 
-/* A scan so short that the call itself counts: the shape test and the row of classes. */
+/* A scan so short that the call itself counts, with its shape test. */
 static struct row short_row(const char *what, const struct image *image, const uint8_t *text, size_t bytes, uint64_t set)
 {
     struct row row = scan_row(what, image, text, bytes, set);

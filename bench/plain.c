@@ -166,21 +166,27 @@ size_t plain_c_shape(const uint16_t *img, size_t img_words, uint64_t *out, size_
     return 2;
 }
 
-static void class_row(const uint16_t *img, const struct pack *p, uint8_t row[256])
+/* Ranges rise: the one that holds the byte is found by halves. A byte in none has class 0. */
+static size_t class_of(const uint16_t *img, const struct pack *p, uint8_t byte)
 {
-    memset(row, 0, 256);
-    for (size_t r = 0; r < p->ranges; r++) {
-        const uint16_t *range = img + p->class + r * 3;
-        for (size_t b = range[0]; b <= range[1]; b++)
-            row[b] = (uint8_t)range[2];
+    size_t from = 0, to = p->ranges;
+    while (from < to) {
+        size_t middle = (from + to) / 2;
+        const uint16_t *range = img + p->class + middle * 3;
+        if (byte < range[0])
+            to = middle;
+        else if (byte > range[1])
+            from = middle + 1;
+        else
+            return range[2];
     }
+    return 0;
 }
 
-/* A pack, its row of classes, and the moves taken so far over all scans of one call. */
+/* A pack, and the moves taken so far over all scans of one call. */
 struct scanner {
     const uint16_t *img;
     struct pack p;
-    uint8_t row[256];
     uint32_t moves, allowance;
 };
 
@@ -202,7 +208,7 @@ static struct found one_scan(struct scanner *s, const uint8_t *text, size_t byte
     for (; i < bytes; i++) {
         if ((set_at(img, p->scan + state * 12 + 8) & valid) == 0)
             break;
-        size_t to = img[p->move + state * p->classes + s->row[text[i]]];
+        size_t to = img[p->move + state * p->classes + class_of(img, p, text[i])];
         if (to == 0)
             break;
         if (i == left) {
@@ -244,7 +250,6 @@ size_t plain_c_scan(const uint16_t *img, size_t img_words, const uint8_t *text, 
     if (wrong != GOOD)
         return tell(out, 4, wrong, 0, 0, 0);
     struct scanner s = {.img = img, .p = pack_of(img), .allowance = allowance};
-    class_row(img, &s.p, s.row);
     if (start > text_bytes)
         start = text_bytes;
     struct found found = one_scan(&s, text + start, text_bytes - start, set & below(s.p.terminals) & ~UINT64_C(1));
@@ -859,7 +864,6 @@ static size_t run(const uint16_t *img, const uint8_t *text, size_t text_bytes, u
     r.scanner.p = pack_of(img);
     r.scanner.moves = 0;
     r.scanner.allowance = allowance;
-    class_row(img, &r.scanner.p, r.scanner.row);
     r.text = text;
     r.bytes = text_bytes;
     r.tree = tree;

@@ -202,19 +202,27 @@ fn shape(img: &[u16]) -> Result<Pack, usize> {
     Ok(p)
 }
 
-fn class_row(img: &[u16], p: &Pack) -> [u8; 256] {
-    let mut row = [0; 256];
-    for range in img[p.class..p.moves].chunks_exact(3) {
-        row[usize::from(range[0])..=usize::from(range[1])].fill(range[2] as u8);
+/// Ranges rise: the one that holds the byte is found by halves. A byte in none has class 0.
+fn class_of(img: &[u16], p: &Pack, byte: u8) -> usize {
+    let (mut from, mut to) = (0, p.ranges);
+    while from < to {
+        let middle = (from + to) / 2;
+        let range = &img[p.class + middle * 3..p.class + middle * 3 + 3];
+        if u16::from(byte) < range[0] {
+            to = middle;
+        } else if u16::from(byte) > range[1] {
+            from = middle + 1;
+        } else {
+            return usize::from(range[2]);
+        }
     }
-    row
+    0
 }
 
-/// A pack, its row of classes, and the moves taken so far over all scans of one call.
+/// A pack, and the moves taken so far over all scans of one call.
 struct Scanner<'i> {
     img: &'i [u16],
     p: Pack,
-    row: [u8; 256],
     moves: u32,
     allowance: u32,
 }
@@ -227,8 +235,7 @@ struct UsedUp;
 
 impl<'i> Scanner<'i> {
     fn new(img: &'i [u16], p: Pack, allowance: u32) -> Scanner<'i> {
-        let row = class_row(img, &p);
-        Scanner { img, p, row, moves: 0, allowance }
+        Scanner { img, p, moves: 0, allowance }
     }
 
     fn scan(&mut self, text: &[u8], valid: u64) -> Result<Found, UsedUp> {
@@ -239,7 +246,7 @@ impl<'i> Scanner<'i> {
             if set_at(img, p.scan + state * 12 + 8) & valid == 0 {
                 break;
             }
-            let to = usize::from(img[p.moves + state * p.classes + usize::from(self.row[usize::from(byte)])]);
+            let to = usize::from(img[p.moves + state * p.classes + class_of(img, p, byte)]);
             if to == 0 {
                 break;
             }

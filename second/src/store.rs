@@ -176,6 +176,10 @@ fn scan_cases(mix: &mut Mix) -> Vec<Case> {
             });
         }
     }
+    // Every byte with few ranges and with many.
+    for ranges in [0, 1, 2, 63, 64] {
+        cases.extend(mix.border_bundle(ranges));
+    }
     // Each rule of the shape broken, with one scan that is refused by it.
     for image in mix.broken_rules() {
         cases.push(Case::Shape {

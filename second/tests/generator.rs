@@ -1,6 +1,7 @@
 //! The generator: what each source promises, and that a run of 15,000 cases hits everything.
 
 use second::check::check;
+use second::gen::borders;
 use second::gen::conditions;
 use second::gen::damage::{self, TextBreak};
 use second::gen::grammar::Grammar;
@@ -14,6 +15,7 @@ use second::gen::wide::greatest_sizes;
 use second::hits;
 use second::image::Action;
 use second::marked::SMALL_PACK;
+use second::scan::scan;
 use second::sets;
 use second::shape::{pack, shape};
 use second::text::words_of;
@@ -343,4 +345,25 @@ fn the_three_methods_tell_grammars_apart() {
     assert!(good(lalr1, Method::Lr1));
     assert!(good(lalr1, Method::Lalr1));
     assert!(!good(lalr1, Method::Slr1));
+}
+
+#[test]
+fn a_pack_that_tells_classes_tells_that_of_every_byte() {
+    let mut rng = Rng::new(3);
+    let text: Vec<u8> = (0..=255).collect();
+    for count in 0..=64 {
+        let ranges = borders::ranges(&mut rng, count);
+        assert_eq!(ranges.len(), count);
+        let image = borders::telling(&ranges).image();
+        for byte in 0..=255 {
+            let held = ranges.iter().find(|r| (r.lo..=r.hi).contains(&byte));
+            let class = held.map_or(0, |r| usize::from(r.class));
+            let scanned = scan(&image, &text, usize::from(byte), u64::MAX, u32::MAX);
+            assert_eq!(
+                (scanned.set, scanned.moves),
+                (sets::single(class + 1), 1),
+                "byte {byte} of {count} ranges"
+            );
+        }
+    }
 }

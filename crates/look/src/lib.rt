@@ -35,15 +35,15 @@ pub struct Looked {
 }
 
 // One scan from where the parse stands, within what is left of the allowance.
-fn seek(img: &[u16], row: &[u8; 256], text: &[u8], allowance: usize, v: u64, at: Spot) -> Sought
-    requires { ⌜ Ready (now img) (now row) ⌝ }
+fn seek(img: &[u16], text: &[u8], allowance: usize, v: u64, at: Spot) -> Sought
+    requires { ⌜ Ready (now img) ⌝ }
     requires { ⌜ Within (now text) allowance at ⌝ }
     requires { ⌜ v < 2 ^ terminals (now img) ⌝ }
     ensures { λ r. ⌜ r ≡ seek (now (img .entry)) (now (text .entry)) allowance v at ⌝ }
     ensures { λ r. ⌜ SoughtWithin (now (img .entry)) (now (text .entry)) allowance r ⌝ }
 {
     let place = at.place;
-    let stop = scan::one_scan(img, row, v, allowance - at.moves, &text[place..]);
+    let stop = scan::one_scan(img, v, allowance - at.moves, &text[place..]);
     Sought {
         spent: stop.spent,
         set: stop.set,
@@ -121,14 +121,14 @@ fn choose(img: &[u16], set: u64, length: usize, at: Spot) -> Looked
 }
 
 // No token: what other terminal is there, code 8, or none, code 7.
-fn rescan(img: &[u16], row: &[u8; 256], text: &[u8], allowance: usize, at: Spot) -> Looked
-    requires { ⌜ Ready (now img) (now row) ⌝ }
+fn rescan(img: &[u16], text: &[u8], allowance: usize, at: Spot) -> Looked
+    requires { ⌜ Ready (now img) ⌝ }
     requires { ⌜ Within (now text) allowance at ⌝ }
     ensures { λ r. ⌜ r ≡ rescan (now (img .entry)) (now (text .entry)) allowance at ⌝ }
     ensures { λ r. ⌜ LookedWithin (now (img .entry)) (now (text .entry)) allowance r ⌝ }
 {
     let others = sets::less(scan::all_but_end(img), image::layout(img));
-    let f = seek(img, row, text, allowance, others, at);
+    let f = seek(img, text, allowance, others, at);
     if f.spent {
         return refused(numbers::ALLOWANCE_USED_UP, 0, 0, f.at);
     }
@@ -156,19 +156,19 @@ fn sought_set(img: &[u16], known: &mut [u64; 128], s: usize) -> u64
 }
 
 // One scan for the set of a state, and what it comes to: layout or a token, or a refusal.
-fn piece(img: &[u16], row: &[u8; 256], text: &[u8], allowance: usize, v: u64, at: Spot) -> Looked
-    requires { ⌜ Ready (now img) (now row) ⌝ }
+fn piece(img: &[u16], text: &[u8], allowance: usize, v: u64, at: Spot) -> Looked
+    requires { ⌜ Ready (now img) ⌝ }
     requires { ⌜ Within (now text) allowance at ⌝ }
     requires { ⌜ v < 2 ^ terminals (now img) ⌝ }
     ensures { λ r. ⌜ ((s : ℕ) → v ≡ soughtSet (now (img .entry)) s → r ≡ piece (now (img .entry)) (now (text .entry)) allowance s at) ⌝ }
     ensures { λ r. ⌜ LookedWithin (now (img .entry)) (now (text .entry)) allowance r ⌝ }
 {
-    let f = seek(img, row, text, allowance, v, at);
+    let f = seek(img, text, allowance, v, at);
     if f.spent {
         return refused(numbers::ALLOWANCE_USED_UP, 0, 0, f.at);
     }
     if f.set == 0 {
-        return rescan(img, row, text, allowance, f.at);
+        return rescan(img, text, allowance, f.at);
     }
     choose(img, f.set, f.length, f.at)
 }
@@ -187,14 +187,13 @@ fn is_layout(img: &[u16], l: Looked) -> bool
 // Past the layout to the token of state s, or to the end of the text, where nothing is scanned.
 pub fn look(
     img: &[u16],
-    row: &[u8; 256],
     text: &[u8],
     known: &mut [u64; 128],
     allowance: usize,
     s: usize,
     at: Spot,
 ) -> Looked
-    requires { ⌜ Ready (now img) (now row) ⌝ }
+    requires { ⌜ Ready (now img) ⌝ }
     requires { ⌜ Known (now img) (now known) ⌝ }
     requires { ⌜ s < states (now img) ⌝ }
     requires { ⌜ Within (now text) allowance at ⌝ }
@@ -208,7 +207,7 @@ pub fn look(
     let v = sought_set(img, known, s);
     let mut here = at;
     while here.place < text.len() {
-        let l = piece(img, row, text, allowance, v, here);
+        let l = piece(img, text, allowance, v, here);
         if is_layout(img, l) {
             here = Spot {
                 place: l.at.place + l.length,

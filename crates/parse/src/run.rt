@@ -29,7 +29,6 @@ fn room_of(words: usize) -> usize
 // One turn: look, and do what the cell says.
 fn turn(
     img: &[u16],
-    row: &[u8; 256],
     text: &[u8],
     stack: &mut [u16; 512],
     known: &mut [u64; 128],
@@ -38,7 +37,7 @@ fn turn(
     room: usize,
     from: Position,
 ) -> Turned
-    requires { ⌜ Ready (now img) (now row) ⌝ }
+    requires { ⌜ Ready (now img) ⌝ }
     requires { ⌜ length (now text) ≤ 65535 ⌝ }
     requires { ⌜ Stacked (now img) (now stack) (from .height) ⌝ }
     requires { ⌜ Known (now img) (now known) ⌝ }
@@ -50,7 +49,7 @@ fn turn(
     let h = from.height;
     let top = act::wide(stack[numbers::MOST_STATES - h]);
     let here = from.at;
-    let l = look::look(img, row, text, known, allowance, top, here);
+    let l = look::look(img, text, known, allowance, top, here);
     let at = l.at;
     let to = Position {
         height: h,
@@ -90,7 +89,6 @@ pub fn run(img: &[u16], text: &[u8], tree: &mut [u16], allowance: u32) -> Parsed
     ensures { λ r. ⌜ r ≡ (run (now (img .entry)) (look (now (img .entry)) (now (text .entry)) allowance) (roomOf (now (tree .entry))) start) .parsed ⌝ }
     ensures { λ r. ⌜ now (tree .exit) ≡ treeAfter (now (tree .entry)) (run (now (img .entry)) (look (now (img .entry)) (now (text .entry)) allowance) (roomOf (now (tree .entry))) start) ⌝ }
 {
-    let row = scan::classes::class_row(img);
     let room = room_of(tree.len());
     let mut stack = [0u16; 512];
     let mut known = [0u64; 128];
@@ -102,7 +100,6 @@ pub fn run(img: &[u16], text: &[u8], tree: &mut [u16], allowance: u32) -> Parsed
     loop {
         let t = turn(
             img,
-            &row,
             text,
             &mut stack,
             &mut known,

@@ -1,26 +1,19 @@
 -- What the inner functions of the scan ask for and keep. The scan called by itself asks for none of it.
 use mathlib.Core.Path.{_≡_}
 use mathlib.Core.List.{List}
-use Prim.Native.Nat.{ℕ, _<_, _≤_}
-use lib.ListN.{length, getD}
-use Rattle.pack.specs.Image.{classOf}
+use Prim.Native.Nat.{ℕ, _+_, _<_, _≤_}
+use Rattle.pack.specs.Image.{lo}
 use Rattle.pack.specs.Laid.{Laid}
 use Rattle.numbers.specs.declared.Verdict.the-variants.{Good}
 use Rattle.shape.specs.Shape.{shape}
 
--- A row that holds the class of every byte.
-pub record Classed (img row : List ℕ) : Type 0 where
-  pub size : length row ≡ 256
-  pub each : (b : ℕ) → b < 256 → getD row b 0 ≡ classOf img b
-
--- A pack of good shape, and the row of its classes: what a scan needs, asked for once.
-pub record Ready (img row : List ℕ) : Type 0 where
+-- A pack of good shape: what a scan needs, asked for once.
+pub record Ready (img : List ℕ) : Type 0 where
   pub laid : Laid img
   pub good : shape img ≡ Good
-  pub classed : Classed img row
 
--- The row holds a class from byte lo to byte hi, and is as it was elsewhere.
-pub record Filled (row : List ℕ) (lo hi class : ℕ) (row′ : List ℕ) : Type 0 where
-  pub size : length row ≡ 256 → length row′ ≡ 256
-  pub inside : length row ≡ 256 → (b : ℕ) → lo ≤ b → b ≤ hi → getD row′ b 0 ≡ class
-  pub outside : (b : ℕ) → (lo ≤ b → b ≤ hi → ⊥) → getD row′ b 0 ≡ getD row b 0
+-- The search for the class of byte b goes on from range s: from one that is so many later than r where that one begins at the byte or
+-- below it, else from r.
+pub record Onward (img : List ℕ) (b r by s : ℕ) : Type 0 where
+  pub later : lo img (r + by) ≤ b → s ≡ r + by
+  pub here : b < lo img (r + by) → s ≡ r

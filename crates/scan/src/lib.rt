@@ -10,7 +10,7 @@ ghost use Rattle.scan.specs.Ready.{Ready};
 ghost use Rattle.scan.specs.Scan.{remember, scan, stopCode, refused, scanAlone};
 use pack::image;
 
-pub mod classes; // classes.rt: the row of 256 classes
+pub mod classes; // classes.rt: the class of a byte
 
 // What a scan remembers: the terminals matched last and the length of that match; both 0 for none.
 pub struct Remembered {
@@ -53,23 +53,17 @@ fn remember(accepted: u64, rejected: u64, n: usize, before: Remembered) -> Remem
 }
 
 // Where scan state q moves on a byte: 0 for nowhere, or 1 more than the state.
-fn move_on(img: &[u16], row: &[u8; pack::image::BYTE_COUNT], q: usize, b: u8) -> usize
-    requires { ⌜ Ready (now img) (now row) ⌝ }
+fn move_on(img: &[u16], q: usize, b: u8) -> usize
+    requires { ⌜ Ready (now img) ⌝ }
     requires { ⌜ q < scanStates (now img) ⌝ }
     ensures { λ r. ⌜ (r ≡ move (now (img .entry)) q (classOf (now (img .entry)) b)) × (r ≤ scanStates (now (img .entry))) ⌝ }
 {
-    image::move_of(img, q, classes::class_of(img, row, b))
+    image::move_of(img, q, classes::class_of(img, b))
 }
 
-// One scan over the rest of the text. Inner: its callers have tested the shape and filled the row of classes.
-pub fn one_scan(
-    img: &[u16],
-    row: &[u8; pack::image::BYTE_COUNT],
-    v: u64,
-    allowance: usize,
-    bytes: &[u8],
-) -> Stop
-    requires { ⌜ Ready (now img) (now row) ⌝ }
+// One scan over the rest of the text. Inner: its callers have tested the shape.
+pub fn one_scan(img: &[u16], v: u64, allowance: usize, bytes: &[u8]) -> Stop
+    requires { ⌜ Ready (now img) ⌝ }
     ensures { λ r. ⌜ r ≡ scan (now (img .entry)) v allowance (now (bytes .entry)) ⌝ }
 {
     let mut q: usize = 0;
@@ -92,7 +86,7 @@ pub fn one_scan(
                 moves: n,
             };
         }
-        let to = move_on(img, row, q, bytes[n]);
+        let to = move_on(img, q, bytes[n]);
         if to == 0 {
             return Stop {
                 spent: false,
@@ -151,10 +145,8 @@ pub fn scan(img: &[u16], text: &[u8], start: usize, set: u64, allowance: u32) ->
         return refusal(numbers::WRONG_SHAPE, numbers::verdict_place(v));
     }
     let place = within(start, text.len());
-    let row = classes::class_row(img);
     let stop = one_scan(
         img,
-        &row,
         set & all_but_end(img),
         allowance as usize,
         &text[place..],

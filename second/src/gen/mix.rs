@@ -3,6 +3,7 @@
 use std::collections::BTreeMap;
 use std::rc::Rc;
 
+use super::borders;
 use super::conditions;
 use super::damage::{self, TextBreak};
 use super::passing::{passing, Drops, Language, Scale};
@@ -141,6 +142,11 @@ impl Mix {
         if self.kinds.parse && self.bundles % 20 == 15 {
             return self.layout_bundle();
         }
+        if !self.small && self.kinds.scan && self.bundles % 40 == 5 {
+            let most = *self.rng.pick(&[2, 8, 64]);
+            let ranges = self.rng.from_to(0, most);
+            return self.border_bundle(ranges);
+        }
         // A tree need not come from a parse; where nothing else is wanted, three of four are made without one.
         let without_a_parse = match self.kinds {
             Kinds::PRINT => self.bundles % 4 != 0,
@@ -151,6 +157,21 @@ impl Mix {
         }
         let subject = self.subject();
         self.cases_of(&subject)
+    }
+
+    /// Every byte by itself, for a pack with so many ranges that tells its class.
+    pub fn border_bundle(&mut self, ranges: usize) -> Vec<Case> {
+        let ranges = borders::ranges(&mut self.rng, ranges);
+        let image: Image = Rc::new(borders::telling(&ranges).image());
+        let text: Text = Rc::new((0..=255).collect());
+        let scan = |start| Case::Scan {
+            image: image.clone(),
+            text: text.clone(),
+            start,
+            set: Set::MAX,
+            allowance: u32::MAX,
+        };
+        (0..256).map(scan).collect()
     }
 
     fn scale(&mut self) -> Scale {

@@ -1,7 +1,9 @@
 //! The generator: packs, pack texts and queries from a seed, from three sources. `passing` builds packs that pass,
 //! `random` images of good shape that are otherwise random, and `damage` breaks images, texts and queries; `conditions`
-//! makes a condition of the check fail. `printing` has trees to print. `mix` makes cases of all.
+//! makes a condition of the check fail. `borders` has packs that tell the class of a byte, `printing` trees to print.
+//! `mix` makes cases of all.
 
+pub mod borders;
 pub mod conditions;
 pub mod damage;
 pub mod grammar;

@@ -10,10 +10,10 @@ use Rattle.look.proofs.look.Statement.{statement}
 use Rattle.look.proofs.look.Tie as tie
 
 abbrev Inv-loop : tie.InvT-loop
-Inv-loop img row text known allowance s v here₀ here = Within text allowance here × (look img text allowance s here₀ ≡ look img text allowance s here)
+Inv-loop img text known allowance s v here₀ here = Within text allowance here × (look img text allowance s here₀ ≡ look img text allowance s here)
 
 abbrev μ-loop : tie.MeasureT-loop
-μ-loop img row text known allowance s v here₀ here = length text - here .place
+μ-loop img text known allowance s v here₀ here = length text - here .place
 
 returns : tie.Need-returns Inv-loop μ-loop
 returns c =
@@ -32,11 +32,11 @@ piece-requires c κs =
     let s = k .before .before .before .before .before .before in
     (s .pre .0, (l .loop .inv .0, rw (k .sought-set .ensures .0) (sought-lt (s .args .img .now) _ (s .pre .0 .good))))
 
-add-t17 : tie.Need-add-t17 Inv-loop μ-loop
-add-t17 c =
+add-t16 : tie.Need-add-t16 Inv-loop μ-loop
+add-t16 c =
     let p = c .before .before .before in
     let s = p .before .before .before .before .before .before .before .before .before .before in
-    omega (arith, p .piece .ensures .1 .place, s .good .1 .1 .0 .0)
+    omega (arith, p .piece .ensures .1 .place, s .good .1 .0 .0)
 
 loop-less : tie.Need-loop-less Inv-loop μ-loop
 loop-less c =
@@ -84,4 +84,4 @@ returns-3 c =
 pub look-spec : {M : Type 1} → statement M
 look-spec =
     tie.close
-    (tie.spec Inv-loop μ-loop (λ c κs. search needs) returns (λ c κs. search needs) loop-holds piece-requires (λ c κs. search needs) add-t17 loop-less loop-again returns-2 (λ c κs. search needs) returns-3)
+    (tie.spec Inv-loop μ-loop (λ c κs. search needs) returns (λ c κs. search needs) loop-holds piece-requires (λ c κs. search needs) add-t16 loop-less loop-again returns-2 (λ c κs. search needs) returns-3)

@@ -25,8 +25,8 @@ part-one-scan-end c = search needs
 one-scan-requires : tie.Need-one-scan-requires
 one-scan-requires c κs = search needs
 
-add-t9 : tie.Need-add-t9
-add-t9 c =
+add-t8 : tie.Need-add-t8
+add-t8 c =
     let o = c .before .before in
     let s = o .before .before .before .before .before in
     omega (arith, s .fits, seek-moves _ (s .args .text .now) _ _ _ (rest-of (s .args .text .now) _) (o .one-scan .ensures) (s .pre .1 .0))
@@ -47,5 +47,5 @@ seek-spec =
     part-one-scan-start
     part-one-scan-end
     one-scan-requires
-    add-t9
+    add-t8
     returns)

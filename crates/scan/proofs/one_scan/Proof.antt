@@ -10,11 +10,11 @@ use Rattle.scan.proofs.one_scan.Statement.{statement}
 use Rattle.scan.proofs.one_scan.Tie as tie
 
 abbrev Inv-loop : tie.InvT-loop
-Inv-loop img row v allowance bytes q₀ n₀ kept₀ q n kept =
+Inv-loop img v allowance bytes q₀ n₀ kept₀ q n kept =
     (q < scanStates img) × (n ≤ length bytes) × (scan img v allowance bytes ≡ scanFrom img v (allowance - n) (drop n bytes) q n kept)
 
 abbrev μ-loop : tie.MeasureT-loop
-μ-loop img row v allowance bytes q₀ n₀ kept₀ q n kept = length bytes - n
+μ-loop img v allowance bytes q₀ n₀ kept₀ q n kept = length bytes - n
 
 loop-holds : tie.Need-loop-holds Inv-loop μ-loop
 loop-holds c = (search needs, search needs, begins _ _ _ _)

@@ -17,22 +17,23 @@ returns-2 c =
     c .refusal2 .ensures
     ∙ alone-wrong _ _ _ _ _ (s .before .if1 .left) (s .shape .ensures) (sym (w .is-wrong .ensures) ∙ c .before .before .if2 .taken) (c .before .verdict-place .ensures)
 
-class-row-requires : tie.Need-class-row-requires
-class-row-requires c κs =
-    let w = c .before .before in
-    let good = sym (w .before .shape .ensures) ∙ is-good _ (sym (w .is-wrong .ensures) ∙ c .before .if2 .left) in
-    (good-laid _ good, good)
-
 all-but-end-requires : tie.Need-all-but-end-requires
 all-but-end-requires c κs =
-    let i = c .before .before .before in
+    let i = c .before in
     let w = i .before in
     good-laid _ (sym (w .before .shape .ensures) ∙ is-good _ (sym (w .is-wrong .ensures) ∙ i .if2 .left))
+
+one-scan-requires : tie.Need-one-scan-requires
+one-scan-requires c κs =
+    let i = c .before .before .before in
+    let w = i .before in
+    let good = sym (w .before .shape .ensures) ∙ is-good _ (sym (w .is-wrong .ensures) ∙ i .if2 .left) in
+    record { laid = good-laid _ good; good = good }
 
 returns-3 : tie.Need-returns-3
 returns-3 c =
     let t = c .before .before .before in
-    let p = t .before .before .before in
+    let p = t .before in
     let i = p .before in
     let s = i .before .before in
     alone-scan _ _ _ _ _ (s .before .if1 .left) (s .shape .ensures) (sym (i .before .is-wrong .ensures) ∙ i .if2 .left) (p .within .ensures) (t .all-but-end .ensures)
@@ -41,4 +42,4 @@ returns-3 c =
 pub scan-spec : {M : Type 1} → statement M
 scan-spec =
     tie.close
-    (tie.spec (λ c κs. search needs) returns (λ c κs. search needs) (λ c κs. search needs) (λ c κs. search needs) (λ c κs. search needs) returns-2 (λ c κs. search needs) class-row-requires all-but-end-requires (λ c. search needs) (λ c. search needs) (λ c. search needs) (λ c κs. c .before .before .before .class-row .ensures) (λ c κs. search needs) returns-3)
+    (tie.spec (λ c κs. search needs) returns (λ c κs. search needs) (λ c κs. search needs) (λ c κs. search needs) (λ c κs. search needs) returns-2 (λ c κs. search needs) all-but-end-requires (λ c. search needs) (λ c. search needs) (λ c. search needs) one-scan-requires (λ c κs. search needs) returns-3)

@@ -6,11 +6,11 @@ use Rattle.scan.proofs.classes.class_of.Tie as tie
 
 returns : tie.Need-returns
 returns c =
-    let s = c .before .before .before .before in
-    let e = rw (c .before .before .wide .ensures) at (c .wide2 .ensures) ∙ s .pre .classed .each _ (s .fits .b .fits) in
+    let s = c .before .before .before in
+    let e = rw (c .before .wide .ensures) at (c .sought .ensures) in
     (e, rw e (good-class _ (s .pre .good) _))
 
 pub class-of-spec : {M : Type 1} → statement M
 class-of-spec =
     tie.close
-    (tie.spec (λ c κs. search needs) (λ c. search needs) (λ c κs. search needs) returns)
+    (tie.spec (λ c κs. search needs) (λ c κs. search needs) returns)
