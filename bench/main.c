@@ -19,6 +19,7 @@ typedef size_t image_function(const uint16_t *, size_t, uint64_t *, size_t);
 typedef size_t scan_function(const uint16_t *, size_t, const uint8_t *, size_t, size_t, uint64_t, uint32_t, uint64_t *, size_t);
 typedef size_t read_function(const uint8_t *, size_t, uint16_t *, size_t, uint64_t *, size_t);
 typedef size_t write_function(const uint16_t *, size_t, uint8_t *, size_t, uint64_t *, size_t);
+typedef size_t move_function(const uint8_t *, size_t, uint8_t *, size_t, uint64_t *, size_t);
 typedef size_t print_function(const uint8_t *, size_t, const uint16_t *, size_t, uint8_t *, size_t, uint64_t *, size_t);
 typedef size_t parse_function(const uint16_t *, size_t, const uint8_t *, size_t, uint16_t *, size_t, uint32_t, uint64_t *, size_t);
 
@@ -27,19 +28,21 @@ struct version {
     image_function *shape, *check;
     scan_function *scan;
     read_function *read;
-    write_function *write;
+    write_function *write, *write2;
+    move_function *form2, *form1;
     parse_function *parse;
     print_function *print;
 };
 
 static const struct version versions[VERSIONS] = {
-    {"proved", zhg_shape, zhg_check, zhg_scan, zhg_read, zhg_write, zhg_parse, zhg_print},
-    {"plain C", plain_c_shape, plain_c_check, plain_c_scan, plain_c_read, plain_c_write, plain_c_parse, plain_c_print},
-    {"plain Rust", plain_rust_shape, plain_rust_check, plain_rust_scan, plain_rust_read, plain_rust_write, plain_rust_parse,
-     plain_rust_print},
+    {"proved", zhg_shape, zhg_check, zhg_scan, zhg_read, zhg_write, zhg_write2, zhg_form2, zhg_form1, zhg_parse, zhg_print},
+    {"plain C", plain_c_shape, plain_c_check, plain_c_scan, plain_c_read, plain_c_write, plain_c_write2, plain_c_form2, plain_c_form1,
+     plain_c_parse, plain_c_print},
+    {"plain Rust", plain_rust_shape, plain_rust_check, plain_rust_scan, plain_rust_read, plain_rust_write, plain_rust_write2,
+     plain_rust_form2, plain_rust_form1, plain_rust_parse, plain_rust_print},
 };
 
-/* Plain C that parses without its shape test, and does nothing else; and C made as fast as we can, of three functions. */
+/* Plain C that parses without its shape test, and does nothing else; and C made as fast as we can, of three functions, for form 1. */
 static const struct version run_alone = {.name = "plain C's run", .parse = plain_c_run};
 static const struct version fast = {.name = "fast C", .shape = fast_c_shape, .read = fast_c_read, .write = fast_c_write};
 
@@ -54,9 +57,9 @@ struct tree {
     size_t count;
 };
 
-/* One call of an entry point. A reader, a writer, a parse and a printout get so many words or bytes of the lent buffers. */
+/* One call of an entry point. A reader, a writer, a move, a parse and a printout get so many words or bytes of the lent buffers. */
 struct call {
-    enum { SHAPE, SCAN, READ, WRITE, CHECK, PARSE, PRINT } kind;
+    enum { SHAPE, SCAN, READ, WRITE, CHECK, PARSE, PRINT, WRITE2, FORM2, FORM1 } kind;
     const struct image *image;
     const uint8_t *text;
     size_t text_bytes, start;
@@ -82,6 +85,12 @@ static size_t answer(const struct version *version, const struct call *call, uin
         return version->read(call->text, call->text_bytes, lent_words, call->room, out, NUMBERS);
     case WRITE:
         return version->write(image->words, image->count, lent_bytes, call->room, out, NUMBERS);
+    case WRITE2:
+        return version->write2(image->words, image->count, lent_bytes, call->room, out, NUMBERS);
+    case FORM2:
+        return version->form2(call->text, call->text_bytes, lent_bytes, call->room, out, NUMBERS);
+    case FORM1:
+        return version->form1(call->text, call->text_bytes, lent_bytes, call->room, out, NUMBERS);
     case CHECK:
         return version->check(image->words, image->count, out, NUMBERS);
     case PRINT:
@@ -198,6 +207,15 @@ static size_t write_pack(const struct image *image, uint8_t text[MOST_BYTES])
     zhg_write(image->words, image->count, text, MOST_BYTES, out, 2);
     if (out[0] != 0)
         fail("the pack is refused");
+    return out[1];
+}
+
+static size_t write_form2(const struct image *image, uint8_t text[MOST_BYTES])
+{
+    uint64_t out[2];
+    zhg_write2(image->words, image->count, text, MOST_BYTES, out, 2);
+    if (out[0] != 0)
+        fail("the pack is refused in form 2");
     return out[1];
 }
 
@@ -357,10 +375,11 @@ static void worst_pack(struct image *image, size_t states, size_t productions, b
 
 /* ---- the same answers ---- */
 
-/* Is there a fast version of the function? */
+/* Is there a fast version of the function? It reads form 1 alone. */
 static bool is_fast(const struct call *call)
 {
-    return call->kind == SHAPE || call->kind == READ || call->kind == WRITE;
+    bool form2 = call->kind == READ && call->text_bytes > 5 && call->text[5] == '2';
+    return call->kind == SHAPE || (call->kind == READ && !form2) || call->kind == WRITE;
 }
 
 static size_t compared;
@@ -374,6 +393,9 @@ static size_t lent(const struct call *call, void **buffer)
         *buffer = lent_words;
         return sizeof lent_words;
     case WRITE:
+    case WRITE2:
+    case FORM2:
+    case FORM1:
         *buffer = lent_bytes;
         return sizeof lent_bytes;
     case PRINT:
@@ -466,6 +488,45 @@ static void compare_damaged_text(const struct image *image)
         compare(&(struct call){.kind = READ, .text = text, .text_bytes = bytes, .room = room});
     for (size_t room = bytes - 2; room <= bytes + 1; room++)
         compare(&(struct call){.kind = WRITE, .image = image, .room = room});
+}
+
+/* The same of form 2, with moves to form 1 beside; and moves of form 1 to form 2. */
+static void compare_damaged_forms(const struct image *image)
+{
+    static uint8_t one[MOST_BYTES], two[MOST_BYTES];
+    size_t one_bytes = write_pack(image, one), two_bytes = write_form2(image, two);
+    struct call read = {.kind = READ, .text = two, .room = image->count};
+    struct call form1 = {.kind = FORM1, .text = two, .room = MOST_BYTES}, form2 = {.kind = FORM2, .text = one, .room = MOST_BYTES};
+    const uint8_t other[] = {'0', '1', '2', '9', ':', ',', '\n', '=', ' '};
+    for (size_t i = 0; i <= two_bytes; i++) {
+        uint8_t byte = two[i];
+        read.text_bytes = form1.text_bytes = two_bytes;
+        for (size_t k = 0; k < sizeof other && i < two_bytes; k++) {
+            two[i] = other[k];
+            compare(&read);
+            compare(&form1);
+        }
+        two[i] = byte;
+        read.text_bytes = form1.text_bytes = i;
+        compare(&read);
+        compare(&form1);
+    }
+    for (size_t i = 0; i < one_bytes; i++) {
+        uint8_t byte = one[i];
+        form2.text_bytes = one_bytes;
+        for (size_t k = 0; k < sizeof other; k++) {
+            one[i] = other[k];
+            compare(&form2);
+        }
+        one[i] = byte;
+    }
+    for (size_t room = 0; room <= one_bytes + 1; room++) {
+        compare(&(struct call){.kind = FORM1, .text = two, .text_bytes = two_bytes, .room = room});
+        compare(&(struct call){.kind = FORM2, .text = one, .text_bytes = one_bytes, .room = room});
+        compare(&(struct call){.kind = WRITE2, .image = image, .room = room});
+    }
+    compare(&(struct call){.kind = FORM2, .text = two, .text_bytes = two_bytes, .room = MOST_BYTES});
+    compare(&(struct call){.kind = FORM1, .text = one, .text_bytes = one_bytes, .room = MOST_BYTES});
 }
 
 /* Every word of a pack is changed in several ways, one at a time, and the image is cut short. The query is parsed with each. */
@@ -720,6 +781,14 @@ static struct row text_row(const char *what, const struct image *image, const ui
                         .per_second = 1e9 / (double)bytes};
 }
 
+/* The writer of form 2, by the bytes that it writes, and the moves, by those that they are given. */
+static struct row form_row(const char *what, int kind, const struct image *image, const uint8_t *text, size_t bytes)
+{
+    struct call call = {.kind = kind, .image = image, .text = text, .text_bytes = bytes, .room = MOST_BYTES};
+    return (struct row){.what = what, .call = call, .size = bytes, .sized = "bytes", .unit = "ns per byte",
+                        .per_second = 1e9 / (double)bytes};
+}
+
 /* A whole call, in microseconds. */
 static struct row call_row(const char *what, struct call call, size_t size, const char *sized)
 {
@@ -848,6 +917,8 @@ int main(int words, char **word)
     static char document[MOST_BYTES];
     size_t document_bytes = draw_json(document, 0);
     size_t small_bytes = write_pack(&small, small_text), large_bytes = write_pack(&greatest, large_text);
+    static uint8_t json_text2[MOST_BYTES], profile_text2[MOST_BYTES];
+    size_t json_bytes2 = write_form2(&json, json_text2), profile_bytes2 = write_form2(&profile, profile_text2);
     /* A list is a node in a node for each of its members, so a long one would be too deep to print. */
     static char lists[MOST_BYTES];
     size_t lists_bytes = draw_json(lists, 20);
@@ -879,6 +950,14 @@ int main(int words, char **word)
         text_row("write, json pack", &json, NULL, json_bytes),
         text_row("write, profile pack", &profile, NULL, profile_bytes),
         text_row("write, drawn greatest pack", &greatest, NULL, large_bytes),
+        text_row("read form 2, json pack", NULL, json_text2, json_bytes2),
+        text_row("read form 2, profile pack", NULL, profile_text2, profile_bytes2),
+        form_row("write form 2, json pack", WRITE2, &json, NULL, json_bytes2),
+        form_row("write form 2, profile pack", WRITE2, &profile, NULL, profile_bytes2),
+        form_row("move to form 2, json pack", FORM2, NULL, json_text, json_bytes),
+        form_row("move to form 2, profile pack", FORM2, NULL, profile_text, profile_bytes),
+        form_row("move to form 1, json pack", FORM1, NULL, json_text2, json_bytes2),
+        form_row("move to form 1, profile pack", FORM1, NULL, profile_text2, profile_bytes2),
         check_row("check, small pack", &small),
         check_row("check, json pack", &json),
         check_row("check, profile pack", &profile),
@@ -900,6 +979,7 @@ int main(int words, char **word)
     compare_damaged_image(&middle, tax, false);
     compare_damaged_image(&json, "[1, {\"a\": null}]", false);
     compare_damaged_text(&small);
+    compare_damaged_forms(&small);
     compare_scans(&small);
     compare_scans(&middle);
     compare_scans(&rejects);

@@ -1,4 +1,4 @@
-/* Shape, the scan called by itself, the reader and the writer, the check, the parse and the printout in plain C, written from documents 01
+/* Shape, the scan called by itself, the reader, the writers and the moves between the forms, the check, the parse and the printout in plain C, written from documents 01
  * and 02 the obvious way: each test leaves at the first wrong word, line or place. */
 #include "plain.h"
 
@@ -265,6 +265,7 @@ struct reader {
     size_t bytes, at, line;
     uint16_t image[MOST_WORDS];
     size_t words;
+    uint32_t form;
 };
 
 static bool taken(struct reader *r, char byte)
@@ -285,21 +286,26 @@ static bool named(struct reader *r, const char *name)
     return true;
 }
 
-static bool number(struct reader *r)
+static bool decimal(struct reader *r, uint32_t *n)
 {
-    if (taken(r, '0')) {
-        r->image[r->words++] = 0;
+    *n = 0;
+    if (taken(r, '0'))
         return true;
-    }
     size_t first = r->at;
-    uint32_t n = 0;
     for (; r->at < r->bytes && r->text[r->at] >= '0' && r->text[r->at] <= '9'; r->at++) {
-        n = n * 10 + (r->text[r->at] - '0');
-        if (n > 65535)
+        *n = *n * 10 + (r->text[r->at] - '0');
+        if (*n > 65535)
             return false;
     }
-    r->image[r->words++] = (uint16_t)n;
     return r->at != first;
+}
+
+static bool number(struct reader *r)
+{
+    uint32_t n;
+    bool good = decimal(r, &n);
+    r->image[r->words++] = (uint16_t)n;
+    return good;
 }
 
 static bool set(struct reader *r)
@@ -329,6 +335,30 @@ static bool numbers_line(struct reader *r, const char *name, size_t count)
         if ((i && !taken(r, ',')) || !number(r))
             return false;
     return taken(r, '\n');
+}
+
+/* A row of cells: all of them in form 1, and in form 2 those that are not 0, each behind its column and a colon. */
+static bool cells_line(struct reader *r, const char *name, size_t count)
+{
+    if (r->form == 1)
+        return numbers_line(r, name, count);
+    if (!named(r, name))
+        return false;
+    uint16_t *row = r->image + r->words;
+    memset(row, 0, count * sizeof *row);
+    r->words += count;
+    for (uint32_t least = 0; !taken(r, '\n');) {
+        uint32_t column, code;
+        if (least && !taken(r, ','))
+            return false;
+        if (!decimal(r, &column) || !taken(r, ':') || !decimal(r, &code))
+            return false;
+        if (column < least || column >= count || code == 0)
+            return false;
+        row[column] = (uint16_t)code;
+        least = column + 1;
+    }
+    return true;
 }
 
 static bool sets_line(struct reader *r, const char *name, size_t count)
@@ -369,9 +399,14 @@ static bool sizes_right(const uint16_t *img)
     return true;
 }
 
-static bool lines(struct reader *r)
+/* The lines of a text of a form, or of either where it is 0. */
+static bool lines(struct reader *r, uint32_t form)
 {
-    if (!numbers_line(r, "pack=", 1) || r->image[0] != 1)
+    if (!numbers_line(r, "pack=", 1))
+        return false;
+    r->form = r->image[0];
+    r->image[0] = 1;
+    if (form ? r->form != form : r->form != 1 && r->form != 2)
         return false;
     if (!numbers_line(r, "size=", 8) || !sizes_right(r->image))
         return false;
@@ -385,16 +420,16 @@ static bool lines(struct reader *r)
         if (!production_line(r))
             return false;
     for (size_t s = 0; s < p.states; s++)
-        if (!numbers_line(r, "act=", p.terminals))
+        if (!cells_line(r, "act=", p.terminals))
             return false;
     for (size_t s = 0; s < p.states; s++)
-        if (!numbers_line(r, "goto=", p.nonterminals))
+        if (!cells_line(r, "goto=", p.nonterminals))
             return false;
     for (size_t i = 0; i < p.ranges; i++)
         if (!numbers_line(r, "class=", 3))
             return false;
     for (size_t q = 0; q < p.scan_states; q++)
-        if (!numbers_line(r, "move=", p.classes))
+        if (!cells_line(r, "move=", p.classes))
             return false;
     for (size_t q = 0; q < p.scan_states; q++)
         if (!sets_line(r, "scan=", 3))
@@ -423,7 +458,7 @@ size_t plain_c_read(const uint8_t *text, size_t text_bytes, uint16_t *buffer, si
     r.text = text;
     r.bytes = text_bytes;
     r.at = r.line = r.words = 0;
-    if (!lines(&r))
+    if (!lines(&r, 0))
         return tell2(out, 1, r.line);
     size_t wrong = first_wrong(r.image, r.words);
     if (wrong != GOOD)
@@ -439,6 +474,7 @@ struct writer {
     /* Where the text goes; nowhere while its bytes are counted. */
     uint8_t *text;
     size_t bytes;
+    unsigned form;
 };
 
 static void put(struct writer *w, char byte)
@@ -484,6 +520,26 @@ static void put_numbers(struct writer *w, const char *name, size_t at, size_t co
     put(w, '\n');
 }
 
+static void put_cells(struct writer *w, const char *name, size_t at, size_t count)
+{
+    if (w->form == 1) {
+        put_numbers(w, name, at, count);
+        return;
+    }
+    bool first = true;
+    put_name(w, name);
+    for (size_t i = 0; i < count; i++)
+        if (w->img[at + i]) {
+            if (!first)
+                put(w, ',');
+            first = false;
+            put_number(w, (unsigned)i);
+            put(w, ':');
+            put_number(w, w->img[at + i]);
+        }
+    put(w, '\n');
+}
+
 static void put_sets(struct writer *w, const char *name, size_t at, size_t count)
 {
     put_name(w, name);
@@ -498,7 +554,9 @@ static void put_sets(struct writer *w, const char *name, size_t at, size_t count
 static void put_lines(struct writer *w)
 {
     struct pack p = pack_of(w->img);
-    put_numbers(w, "pack=", 0, 1);
+    put_name(w, "pack=");
+    put_number(w, w->form);
+    put(w, '\n');
     put_numbers(w, "size=", 1, 8);
     put_sets(w, "layout=", 9, 1);
     for (size_t t = 0; t < p.terminals; t++)
@@ -506,13 +564,13 @@ static void put_lines(struct writer *w)
     for (size_t i = 0; i < p.productions; i++)
         put_numbers(w, "prod=", p.prod + i * 16, 2 + (size_t)w->img[p.prod + i * 16 + 1]);
     for (size_t s = 0; s < p.states; s++)
-        put_numbers(w, "act=", p.act + s * p.terminals, p.terminals);
+        put_cells(w, "act=", p.act + s * p.terminals, p.terminals);
     for (size_t s = 0; s < p.states; s++)
-        put_numbers(w, "goto=", p.go + s * p.nonterminals, p.nonterminals);
+        put_cells(w, "goto=", p.go + s * p.nonterminals, p.nonterminals);
     for (size_t r = 0; r < p.ranges; r++)
         put_numbers(w, "class=", p.class + r * 3, 3);
     for (size_t q = 0; q < p.scan_states; q++)
-        put_numbers(w, "move=", p.move + q * p.classes, p.classes);
+        put_cells(w, "move=", p.move + q * p.classes, p.classes);
     for (size_t q = 0; q < p.scan_states; q++)
         put_sets(w, "scan=", p.scan + q * 12, 3);
     for (size_t g = 0; g < p.groups; g++) {
@@ -524,14 +582,10 @@ static void put_lines(struct writer *w)
     }
 }
 
-size_t plain_c_write(const uint16_t *img, size_t img_words, uint8_t *buffer, size_t buffer_bytes, uint64_t *out, size_t out_len)
+/* Writes a good image. */
+static size_t write_form(const uint16_t *img, unsigned form, uint8_t *buffer, size_t buffer_bytes, uint64_t *out)
 {
-    if (out_len < 2)
-        return 0;
-    size_t wrong = first_wrong(img, img_words);
-    if (wrong != GOOD)
-        return tell2(out, 4, wrong);
-    struct writer w = {img, NULL, 0};
+    struct writer w = {img, NULL, 0, form};
     put_lines(&w);
     if (w.bytes > 65535)
         return tell2(out, 2, 0);
@@ -541,6 +595,52 @@ size_t plain_c_write(const uint16_t *img, size_t img_words, uint8_t *buffer, siz
     w.bytes = 0;
     put_lines(&w);
     return tell2(out, 0, w.bytes);
+}
+
+size_t plain_c_write(const uint16_t *img, size_t img_words, uint8_t *buffer, size_t buffer_bytes, uint64_t *out, size_t out_len)
+{
+    if (out_len < 2)
+        return 0;
+    size_t wrong = first_wrong(img, img_words);
+    if (wrong != GOOD)
+        return tell2(out, 4, wrong);
+    return write_form(img, 1, buffer, buffer_bytes, out);
+}
+
+size_t plain_c_write2(const uint16_t *img, size_t img_words, uint8_t *buffer, size_t buffer_bytes, uint64_t *out, size_t out_len)
+{
+    if (out_len < 2)
+        return 0;
+    size_t wrong = first_wrong(img, img_words);
+    if (wrong != GOOD)
+        return tell2(out, 4, wrong);
+    return write_form(img, 2, buffer, buffer_bytes, out);
+}
+
+static size_t move(const uint8_t *text, size_t text_bytes, unsigned from, unsigned to, uint8_t *buffer, size_t buffer_bytes, uint64_t *out)
+{
+    if (text_bytes > 65535)
+        return tell2(out, 2, 0);
+    struct reader r;
+    r.text = text;
+    r.bytes = text_bytes;
+    r.at = r.line = r.words = 0;
+    if (!lines(&r, from))
+        return tell2(out, 1, r.line);
+    size_t wrong = first_wrong(r.image, r.words);
+    if (wrong != GOOD)
+        return tell2(out, 4, wrong);
+    return write_form(r.image, to, buffer, buffer_bytes, out);
+}
+
+size_t plain_c_form2(const uint8_t *text, size_t text_bytes, uint8_t *buffer, size_t buffer_bytes, uint64_t *out, size_t out_len)
+{
+    return out_len < 2 ? 0 : move(text, text_bytes, 1, 2, buffer, buffer_bytes, out);
+}
+
+size_t plain_c_form1(const uint8_t *text, size_t text_bytes, uint8_t *buffer, size_t buffer_bytes, uint64_t *out, size_t out_len)
+{
+    return out_len < 2 ? 0 : move(text, text_bytes, 2, 1, buffer, buffer_bytes, out);
 }
 
 /* ---- the check ---- */

@@ -11,6 +11,9 @@ size_t plain_c_scan(const uint16_t *img, size_t img_words, const uint8_t *text, 
                     uint32_t allowance, uint64_t *out, size_t out_len);
 size_t plain_c_read(const uint8_t *text, size_t text_bytes, uint16_t *buffer, size_t buffer_words, uint64_t *out, size_t out_len);
 size_t plain_c_write(const uint16_t *img, size_t img_words, uint8_t *buffer, size_t buffer_bytes, uint64_t *out, size_t out_len);
+size_t plain_c_write2(const uint16_t *img, size_t img_words, uint8_t *buffer, size_t buffer_bytes, uint64_t *out, size_t out_len);
+size_t plain_c_form2(const uint8_t *text, size_t text_bytes, uint8_t *buffer, size_t buffer_bytes, uint64_t *out, size_t out_len);
+size_t plain_c_form1(const uint8_t *text, size_t text_bytes, uint8_t *buffer, size_t buffer_bytes, uint64_t *out, size_t out_len);
 size_t plain_c_check(const uint16_t *img, size_t img_words, uint64_t *out, size_t out_len);
 size_t plain_c_parse(const uint16_t *img, size_t img_words, const uint8_t *text, size_t text_bytes, uint16_t *tree, size_t tree_words,
                      uint32_t allowance, uint64_t *out, size_t out_len);
@@ -28,6 +31,9 @@ size_t plain_rust_scan(const uint16_t *img, size_t img_words, const uint8_t *tex
                        uint32_t allowance, uint64_t *out, size_t out_len);
 size_t plain_rust_read(const uint8_t *text, size_t text_bytes, uint16_t *buffer, size_t buffer_words, uint64_t *out, size_t out_len);
 size_t plain_rust_write(const uint16_t *img, size_t img_words, uint8_t *buffer, size_t buffer_bytes, uint64_t *out, size_t out_len);
+size_t plain_rust_write2(const uint16_t *img, size_t img_words, uint8_t *buffer, size_t buffer_bytes, uint64_t *out, size_t out_len);
+size_t plain_rust_form2(const uint8_t *text, size_t text_bytes, uint8_t *buffer, size_t buffer_bytes, uint64_t *out, size_t out_len);
+size_t plain_rust_form1(const uint8_t *text, size_t text_bytes, uint8_t *buffer, size_t buffer_bytes, uint64_t *out, size_t out_len);
 size_t plain_rust_check(const uint16_t *img, size_t img_words, uint64_t *out, size_t out_len);
 size_t plain_rust_parse(const uint16_t *img, size_t img_words, const uint8_t *text, size_t text_bytes, uint16_t *tree, size_t tree_words,
                         uint32_t allowance, uint64_t *out, size_t out_len);

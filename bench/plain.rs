@@ -1,4 +1,4 @@
-//! Shape, the scan called by itself, the reader and the writer, the check, the parse and the printout in plain safe Rust, written from
+//! Shape, the scan called by itself, the reader, the writers and the moves between the forms, the check, the parse and the printout in plain safe Rust, written from
 //! documents 01 and 02 the obvious way: each test leaves at the first wrong word, line or place. Only the entry points at the end, which
 //! turn C's pointers into slices, hold `unsafe`.
 
@@ -293,6 +293,7 @@ struct Reader<'t> {
     at: usize,
     line: usize,
     image: Vec<u16>,
+    form: u16,
 }
 
 /// A line is not of the form.
@@ -317,10 +318,9 @@ impl Reader<'_> {
         Ok(())
     }
 
-    fn number(&mut self) -> Result<(), Malformed> {
+    fn decimal(&mut self) -> Result<u16, Malformed> {
         if self.take(b'0').is_ok() {
-            self.image.push(0);
-            return Ok(());
+            return Ok(0);
         }
         let first = self.at;
         let mut number: u32 = 0;
@@ -334,7 +334,37 @@ impl Reader<'_> {
         if self.at == first {
             return Err(Malformed);
         }
-        self.image.push(number as u16);
+        Ok(number as u16)
+    }
+
+    fn number(&mut self) -> Result<(), Malformed> {
+        let number = self.decimal()?;
+        self.image.push(number);
+        Ok(())
+    }
+
+    /// A row of cells: all of them in form 1, and in form 2 those that are not 0, each behind its column and a colon.
+    fn cells_line(&mut self, name: &str, count: usize) -> Result<(), Malformed> {
+        if self.form == 1 {
+            return self.numbers_line(name, count);
+        }
+        self.name(name)?;
+        let first = self.image.len();
+        self.image.resize(first + count, 0);
+        let mut least = 0;
+        while self.take(b'\n').is_err() {
+            if least != 0 {
+                self.take(b',')?;
+            }
+            let column = usize::from(self.decimal()?);
+            self.take(b':')?;
+            let code = self.decimal()?;
+            if column < least || column >= count || code == 0 {
+                return Err(Malformed);
+            }
+            self.image[first + column] = code;
+            least = column + 1;
+        }
         Ok(())
     }
 
@@ -401,9 +431,12 @@ impl Reader<'_> {
         self.take(b'\n')
     }
 
-    fn lines(&mut self) -> Result<(), Malformed> {
+    /// The lines of a text of one of the forms.
+    fn lines(&mut self, forms: &[u16]) -> Result<(), Malformed> {
         self.numbers_line("pack=", 1)?;
-        if self.image[0] != 1 {
+        self.form = self.image[0];
+        self.image[0] = 1;
+        if !forms.contains(&self.form) {
             return Err(Malformed);
         }
         self.numbers_line("size=", 8)?;
@@ -414,10 +447,10 @@ impl Reader<'_> {
         self.sets_line("layout=", 1)?;
         (0..p.terminals).try_for_each(|_| self.sets_line("dom=", 1))?;
         (0..p.productions).try_for_each(|_| self.production_line())?;
-        (0..p.states).try_for_each(|_| self.numbers_line("act=", p.terminals))?;
-        (0..p.states).try_for_each(|_| self.numbers_line("goto=", p.nonterminals))?;
+        (0..p.states).try_for_each(|_| self.cells_line("act=", p.terminals))?;
+        (0..p.states).try_for_each(|_| self.cells_line("goto=", p.nonterminals))?;
         (0..p.ranges).try_for_each(|_| self.numbers_line("class=", 3))?;
-        (0..p.scan_states).try_for_each(|_| self.numbers_line("move=", p.classes))?;
+        (0..p.scan_states).try_for_each(|_| self.cells_line("move=", p.classes))?;
         (0..p.scan_states).try_for_each(|_| self.sets_line("scan=", 3))?;
         (0..p.groups).try_for_each(|_| self.group_line())?;
         self.line = self.at;
@@ -429,24 +462,34 @@ impl Reader<'_> {
     }
 }
 
-/// Code and number.
-fn read(text: &[u8], buffer: &mut [u16]) -> [u64; 2] {
+/// The image of a text of one of the forms, and where its tables stand; or code and number of the refusal.
+fn image_of(text: &[u8], forms: &[u16]) -> Result<(Vec<u16>, Pack), [u64; 2]> {
     if text.len() > 65535 {
-        return [2, 0];
+        return Err([2, 0]);
     }
     let mut reader = Reader {
         text,
         at: 0,
         line: 0,
         image: Vec::with_capacity(text.len()),
+        form: 0,
     };
-    if reader.lines().is_err() {
-        return [1, reader.line as u64];
+    if reader.lines(forms).is_err() {
+        return Err([1, reader.line as u64]);
     }
     let image = reader.image;
-    if let Err(place) = shape(&image) {
-        return [4, place as u64];
+    match shape(&image) {
+        Ok(p) => Ok((image, p)),
+        Err(place) => Err([4, place as u64]),
     }
+}
+
+/// Code and number.
+fn read(text: &[u8], buffer: &mut [u16]) -> [u64; 2] {
+    let image = match image_of(text, &[1, 2]) {
+        Ok((image, _)) => image,
+        Err(refused) => return refused,
+    };
     match buffer.get_mut(..image.len()) {
         None => [3, image.len() as u64],
         Some(front) => {
@@ -491,6 +534,26 @@ fn put_numbers(text: &mut Vec<u8>, name: &str, numbers: &[u16]) {
     text.push(b'\n');
 }
 
+fn put_cells(text: &mut Vec<u8>, form: u16, name: &str, row: &[u16]) {
+    if form == 1 {
+        return put_numbers(text, name, row);
+    }
+    text.extend_from_slice(name.as_bytes());
+    let mut first = true;
+    for (column, &code) in row.iter().enumerate() {
+        if code != 0 {
+            if !first {
+                text.push(b',');
+            }
+            first = false;
+            put_number(text, column as u16);
+            text.push(b':');
+            put_number(text, code);
+        }
+    }
+    text.push(b'\n');
+}
+
 fn put_sets(text: &mut Vec<u8>, name: &str, words: &[u16]) {
     text.extend_from_slice(name.as_bytes());
     for (i, set) in words.chunks_exact(4).enumerate() {
@@ -503,13 +566,25 @@ fn put_sets(text: &mut Vec<u8>, name: &str, words: &[u16]) {
 }
 
 /// Code and number.
-fn write(img: &[u16], buffer: &mut [u8]) -> [u64; 2] {
-    let p = match shape(img) {
-        Ok(p) => p,
-        Err(place) => return [4, place as u64],
-    };
+fn write(img: &[u16], form: u16, buffer: &mut [u8]) -> [u64; 2] {
+    match shape(img) {
+        Ok(p) => write_form(img, &p, form, buffer),
+        Err(place) => [4, place as u64],
+    }
+}
+
+/// Code and number of the move from a form to another one.
+fn reform(text: &[u8], from: u16, to: u16, buffer: &mut [u8]) -> [u64; 2] {
+    match image_of(text, &[from]) {
+        Ok((image, p)) => write_form(&image, &p, to, buffer),
+        Err(refused) => refused,
+    }
+}
+
+/// Writes a good image.
+fn write_form(img: &[u16], p: &Pack, form: u16, buffer: &mut [u8]) -> [u64; 2] {
     let mut text = Vec::with_capacity(img.len() * 4);
-    put_numbers(&mut text, "pack=", &img[..1]);
+    put_numbers(&mut text, "pack=", &[form]);
     put_numbers(&mut text, "size=", &img[1..9]);
     put_sets(&mut text, "layout=", &img[9..13]);
     for set in img[p.dom..p.prod].chunks_exact(4) {
@@ -519,16 +594,16 @@ fn write(img: &[u16], buffer: &mut [u8]) -> [u64; 2] {
         put_numbers(&mut text, "prod=", &production[..2 + usize::from(production[1])]);
     }
     for row in img[p.act..p.goto].chunks_exact(p.terminals) {
-        put_numbers(&mut text, "act=", row);
+        put_cells(&mut text, form, "act=", row);
     }
     for row in img[p.goto..p.class].chunks_exact(p.nonterminals) {
-        put_numbers(&mut text, "goto=", row);
+        put_cells(&mut text, form, "goto=", row);
     }
     for range in img[p.class..p.moves].chunks_exact(3) {
         put_numbers(&mut text, "class=", range);
     }
     for row in img[p.moves..p.scan].chunks_exact(p.classes) {
-        put_numbers(&mut text, "move=", row);
+        put_cells(&mut text, form, "move=", row);
     }
     for sets in img[p.scan..p.group].chunks_exact(12) {
         put_sets(&mut text, "scan=", sets);
@@ -1011,7 +1086,58 @@ pub unsafe extern "C" fn plain_rust_write(
     let img = std::slice::from_raw_parts(img, img_words);
     let buffer = std::slice::from_raw_parts_mut(buffer, buffer_bytes);
     let out = std::slice::from_raw_parts_mut(out, out_len);
-    tell(out, &write(img, buffer))
+    tell(out, &write(img, 1, buffer))
+}
+
+/// # Safety
+/// Each pointer has as many elements behind it as its length says.
+#[no_mangle]
+pub unsafe extern "C" fn plain_rust_write2(
+    img: *const u16,
+    img_words: usize,
+    buffer: *mut u8,
+    buffer_bytes: usize,
+    out: *mut u64,
+    out_len: usize,
+) -> usize {
+    let img = std::slice::from_raw_parts(img, img_words);
+    let buffer = std::slice::from_raw_parts_mut(buffer, buffer_bytes);
+    let out = std::slice::from_raw_parts_mut(out, out_len);
+    tell(out, &write(img, 2, buffer))
+}
+
+/// # Safety
+/// Each pointer has as many elements behind it as its length says.
+#[no_mangle]
+pub unsafe extern "C" fn plain_rust_form2(
+    text: *const u8,
+    text_bytes: usize,
+    buffer: *mut u8,
+    buffer_bytes: usize,
+    out: *mut u64,
+    out_len: usize,
+) -> usize {
+    let text = std::slice::from_raw_parts(text, text_bytes);
+    let buffer = std::slice::from_raw_parts_mut(buffer, buffer_bytes);
+    let out = std::slice::from_raw_parts_mut(out, out_len);
+    tell(out, &reform(text, 1, 2, buffer))
+}
+
+/// # Safety
+/// Each pointer has as many elements behind it as its length says.
+#[no_mangle]
+pub unsafe extern "C" fn plain_rust_form1(
+    text: *const u8,
+    text_bytes: usize,
+    buffer: *mut u8,
+    buffer_bytes: usize,
+    out: *mut u64,
+    out_len: usize,
+) -> usize {
+    let text = std::slice::from_raw_parts(text, text_bytes);
+    let buffer = std::slice::from_raw_parts_mut(buffer, buffer_bytes);
+    let out = std::slice::from_raw_parts_mut(out, out_len);
+    tell(out, &reform(text, 2, 1, buffer))
 }
 
 /// # Safety

@@ -17,8 +17,8 @@ static _Alignas(4096) uint8_t stack[STACK_BYTES];
 
 /* What the calls are given. */
 static uint16_t image[MOST_WORDS], buffer[MOST_WORDS], tree[TREE_WORDS], chain[4 * NODES * (1 + 2 * BESIDE)], wide[4 * (LEAVES + 1)];
-static uint8_t pack_text[MOST_BYTES], text[MOST_BYTES], printout[10 * LEAVES];
-static size_t words, pack_bytes;
+static uint8_t pack_text[MOST_BYTES], pack_text2[MOST_BYTES], text[MOST_BYTES], printout[10 * LEAVES];
+static size_t words, pack_bytes, pack_bytes2;
 static const char *query;
 static uint64_t out[6];
 
@@ -50,6 +50,21 @@ static void reads(void)
 static void writes(void)
 {
     zhg_write(image, words, text, MOST_BYTES, out, 6);
+}
+
+static void writes2(void)
+{
+    zhg_write2(image, words, text, MOST_BYTES, out, 6);
+}
+
+static void moves2(void)
+{
+    zhg_form2(pack_text, pack_bytes, text, MOST_BYTES, out, 6);
+}
+
+static void moves1(void)
+{
+    zhg_form1(pack_text2, pack_bytes2, text, MOST_BYTES, out, 6);
 }
 
 static void check(void)
@@ -87,7 +102,7 @@ static struct entry {
 } entries[] = {
     {"nothing", nothing, 0}, {"zhg_shape", shape, 0}, {"zhg_scan", scan, 0},   {"zhg_read", reads, 0},
     {"zhg_write", writes, 0}, {"zhg_check", check, 0}, {"zhg_parse", parse, 0}, {"zhg_leaf", leaf, 0},
-    {"zhg_print", print, 0},
+    {"zhg_print", print, 0},  {"zhg_write2", writes2, 0}, {"zhg_form2", moves2, 0}, {"zhg_form1", moves1, 0},
 };
 enum { ENTRIES = sizeof entries / sizeof *entries };
 
@@ -137,16 +152,19 @@ static void measure_pack(const char *folder, const char *name, const char *good_
     if (out[0] != 0)
         fail("a pack text is refused");
     words = out[1];
+    zhg_write2(image, words, pack_text2, MOST_BYTES, out, 6);
+    pack_bytes2 = out[1];
     query = good_query;
     measure();
     for (size_t i = 0; i < words; i += apart) {
         uint16_t word = image[i];
-        uint8_t byte = pack_text[i];
+        uint8_t byte = pack_text[i], byte2 = pack_text2[i];
         image[i] = (uint16_t)(word + 1);
-        pack_text[i] = 'x';
+        pack_text[i] = pack_text2[i] = 'x';
         measure();
         image[i] = word;
         pack_text[i] = byte;
+        pack_text2[i] = byte2;
     }
     query = "?";
     measure();

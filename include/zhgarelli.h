@@ -21,13 +21,24 @@
 extern "C" {
 #endif
 
-/* Reads a pack text into an image: 2 numbers, code (0, 1, 2, 3, 4) and number. With 0 the image stands at the front of the buffer and the
- * number is its words; a refusal leaves the buffer as it was. 20,589 words are room for every image. (Sections 1.2, 1.5, 5.) */
+/* Reads a pack text of either form into an image: 2 numbers, code (0, 1, 2, 3, 4) and number. With 0 the image stands at the front of the
+ * buffer and the number is its words; a refusal leaves the buffer as it was. 20,589 words are room for every image. (Sections 1.2, 1.5, 1.7,
+ * 5.) */
 size_t zhg_read(const uint8_t *text, size_t text_bytes, uint16_t *buffer, size_t buffer_words, uint64_t *out, size_t out_len);
 
-/* Writes an image as pack text: 2 numbers, code (0, 2, 3, 4) and number, in bytes, likewise. 65,535 bytes are room for every text.
- * (Sections 1.2, 1.5, 5.) */
+/* Writes an image as pack text of form 1: 2 numbers, code (0, 2, 3, 4) and number, in bytes, likewise. 65,535 bytes are room for every
+ * text. (Sections 1.2, 1.5, 5.) */
 size_t zhg_write(const uint16_t *img, size_t img_words, uint8_t *buffer, size_t buffer_bytes, uint64_t *out, size_t out_len);
+
+/* Writes an image as pack text of form 2, likewise. One form may fit where the other is too long. (Sections 1.5, 1.7, 5.) */
+size_t zhg_write2(const uint16_t *img, size_t img_words, uint8_t *buffer, size_t buffer_bytes, uint64_t *out, size_t out_len);
+
+/* Moves a pack text of form 1 to form 2: 2 numbers, code (0, 1, 2, 3, 4) and number, in bytes. With 0 the other text stands at the front of
+ * the buffer and the number is its bytes; a refusal leaves the buffer as it was. A text of form 2 is code 1 at 0. (Sections 1.7, 5.) */
+size_t zhg_form2(const uint8_t *text, size_t text_bytes, uint8_t *buffer, size_t buffer_bytes, uint64_t *out, size_t out_len);
+
+/* Moves a pack text of form 2 to form 1, likewise. A text of form 1 is code 1 at 0. (Sections 1.7, 5.) */
+size_t zhg_form1(const uint8_t *text, size_t text_bytes, uint8_t *buffer, size_t buffer_bytes, uint64_t *out, size_t out_len);
 
 /* The shape of an image: 2 numbers, code (0, 4) and place. (Section 1.6.) */
 size_t zhg_shape(const uint16_t *img, size_t img_words, uint64_t *out, size_t out_len);

@@ -24,6 +24,33 @@ mod declared {
             out_len: usize,
         ) -> usize;
 
+        pub fn zhg_write2(
+            img: *const u16,
+            img_words: usize,
+            buffer: *mut u8,
+            buffer_bytes: usize,
+            out: *mut u64,
+            out_len: usize,
+        ) -> usize;
+
+        pub fn zhg_form2(
+            text: *const u8,
+            text_bytes: usize,
+            buffer: *mut u8,
+            buffer_bytes: usize,
+            out: *mut u64,
+            out_len: usize,
+        ) -> usize;
+
+        pub fn zhg_form1(
+            text: *const u8,
+            text_bytes: usize,
+            buffer: *mut u8,
+            buffer_bytes: usize,
+            out: *mut u64,
+            out_len: usize,
+        ) -> usize;
+
         pub fn zhg_shape(img: *const u16, img_words: usize, out: *mut u64, out_len: usize)
             -> usize;
 
@@ -97,6 +124,30 @@ pub fn write(image: &[u16], buffer: &mut [u8]) -> [u64; 2] {
     let (lent, bytes) = (buffer.as_mut_ptr(), buffer.len());
     numbers(|out, room| unsafe {
         declared::zhg_write(image.as_ptr(), image.len(), lent, bytes, out, room)
+    })
+}
+
+/// Code and number.
+pub fn write2(image: &[u16], buffer: &mut [u8]) -> [u64; 2] {
+    let (lent, bytes) = (buffer.as_mut_ptr(), buffer.len());
+    numbers(|out, room| unsafe {
+        declared::zhg_write2(image.as_ptr(), image.len(), lent, bytes, out, room)
+    })
+}
+
+/// Code and number.
+pub fn form2(text: &[u8], buffer: &mut [u8]) -> [u64; 2] {
+    let (lent, bytes) = (buffer.as_mut_ptr(), buffer.len());
+    numbers(|out, room| unsafe {
+        declared::zhg_form2(text.as_ptr(), text.len(), lent, bytes, out, room)
+    })
+}
+
+/// Code and number.
+pub fn form1(text: &[u8], buffer: &mut [u8]) -> [u64; 2] {
+    let (lent, bytes) = (buffer.as_mut_ptr(), buffer.len());
+    numbers(|out, room| unsafe {
+        declared::zhg_form1(text.as_ptr(), text.len(), lent, bytes, out, room)
     })
 }
 

@@ -1,4 +1,4 @@
-//! The eight functions over memory that the caller lends, with nothing allocated: an image is a row of words, a tree is a row of words with
+//! The eleven functions over memory that the caller lends, with nothing allocated: an image is a row of words, a tree is a row of words with
 //! four to a record. [`Pack`](crate::Pack) and [`Tree`](crate::Tree) are the same with memory of their own.
 //!
 //! Each takes any contents. What lent memory holds afterwards is fixed too: the output at its front and the rest as it was. A parse that
@@ -61,15 +61,33 @@ fn done(code: u64, values: [u64; 3], work: Work) -> Result<(), Refused> {
     }
 }
 
-/// Reads a pack text into an image, and gives its number of words. Codes 2, 1, 4 and 3, in this order.
+/// Reads a pack text of either form into an image, and gives its number of words. Codes 2, 1, 4 and 3, in this order.
 pub fn read(text: &[u8], image: &mut [u16]) -> Result<usize, Refused> {
     let [code, number] = c::read(text, image);
     done(code, [number, 0, 0], Work::default()).map(|()| number as usize)
 }
 
-/// Writes an image as pack text, and gives its number of bytes. Codes 4, 2 and 3, in this order.
+/// Writes an image as pack text of form 1, and gives its number of bytes. Codes 4, 2 and 3, in this order.
 pub fn write(image: &[u16], text: &mut [u8]) -> Result<usize, Refused> {
     let [code, number] = c::write(image, text);
+    done(code, [number, 0, 0], Work::default()).map(|()| number as usize)
+}
+
+/// Writes an image as pack text of form 2, and gives its number of bytes. Codes 4, 2 and 3, in this order.
+pub fn write_form2(image: &[u16], text: &mut [u8]) -> Result<usize, Refused> {
+    let [code, number] = c::write2(image, text);
+    done(code, [number, 0, 0], Work::default()).map(|()| number as usize)
+}
+
+/// Moves a pack text of form 1 to form 2, and gives its number of bytes. Codes 2, 1 and 4 for the text given, then 2 and 3 for the one made.
+pub fn to_form2(text: &[u8], moved: &mut [u8]) -> Result<usize, Refused> {
+    let [code, number] = c::form2(text, moved);
+    done(code, [number, 0, 0], Work::default()).map(|()| number as usize)
+}
+
+/// Moves a pack text of form 2 to form 1, and gives its number of bytes. Codes 2, 1 and 4 for the text given, then 2 and 3 for the one made.
+pub fn to_form1(text: &[u8], moved: &mut [u8]) -> Result<usize, Refused> {
+    let [code, number] = c::form1(text, moved);
     done(code, [number, 0, 0], Work::default()).map(|()| number as usize)
 }
 

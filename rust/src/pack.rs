@@ -294,12 +294,13 @@ pub struct Pack {
 }
 
 impl Pack {
-    /// Reads a pack text. It is refused with code 2, 1 or 4, in this order.
+    /// Reads a pack text of either form. It is refused with code 2, 1 or 4, in this order.
     ///
     /// ```
     /// use zhgarelli::{Pack, Refused};
     ///
-    /// assert_eq!(Pack::read("pack=2\n"), Err(Refused::Form { place: 0 }));
+    /// assert_eq!(Pack::read("pack=3\n"), Err(Refused::Form { place: 0 }));
+    /// assert_eq!(Pack::read("pack=2\n"), Err(Refused::Form { place: 7 }));
     /// ```
     pub fn read(text: impl AsRef<[u8]>) -> Result<Pack, Refused> {
         let mut words = vec![0; LARGEST_IMAGE];
@@ -340,7 +341,7 @@ impl Pack {
         &self.words
     }
 
-    /// Writes the pack as text; reading that gives the same pack. It is refused with code 2 where the text would be too long.
+    /// Writes the pack as text of form 1; reading that gives the same pack. It is refused with code 2 where the text would be too long.
     ///
     /// ```
     /// # use zhgarelli::{Pack, Refused};
@@ -351,6 +352,25 @@ impl Pack {
     pub fn write(&self) -> Result<Vec<u8>, Refused> {
         let mut text = vec![0; LONGEST_TEXT];
         let bytes = lent::write(&self.words, &mut text)?;
+        text.truncate(bytes);
+        Ok(text)
+    }
+
+    /// Writes the pack as text of form 2, which leaves out the cells that are 0; reading that gives the same pack. It is refused with code 2
+    /// where the text would be too long.
+    ///
+    /// ```
+    /// # use zhgarelli::{Pack, Refused};
+    /// # let text = std::fs::read("../packs/json.pack").unwrap();
+    /// let pack = Pack::read(&text)?;
+    /// let second = pack.write_form2()?;
+    /// assert!(second.starts_with(b"pack=2\n") && second.len() < text.len());
+    /// assert_eq!(Pack::read(&second)?, pack);
+    /// # Ok::<(), Refused>(())
+    /// ```
+    pub fn write_form2(&self) -> Result<Vec<u8>, Refused> {
+        let mut text = vec![0; LONGEST_TEXT];
+        let bytes = lent::write_form2(&self.words, &mut text)?;
         text.truncate(bytes);
         Ok(text)
     }

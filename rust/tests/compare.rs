@@ -104,6 +104,9 @@ const CRATE: Engine = Engine {
     scan,
     read: |text, room| written(lent::read(text, room)),
     write: |image, room| written(lent::write(image, room)),
+    write2: |image, room| written(lent::write_form2(image, room)),
+    form2: |text, room| written(lent::to_form2(text, room)),
+    form1: |text, room| written(lent::to_form1(text, room)),
     check,
     parse,
     leaf,
@@ -131,6 +134,11 @@ fn the_parse_gives_the_answers_of_the_second_program() {
 #[test]
 fn the_printout_gives_the_answers_of_the_second_program() {
     same(Kinds::PRINT, 20_000, 18);
+}
+
+#[test]
+fn both_forms_and_the_moves_give_the_answers_of_the_second_program() {
+    same(Kinds::FORMS, 20_000, 19);
 }
 
 #[test]

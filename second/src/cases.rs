@@ -8,13 +8,14 @@ use std::rc::Rc;
 
 use crate::engine::Engine;
 use crate::sets::Set;
+use crate::text::Form;
 
 /// A count that takes the image or text of the case before.
 pub const REUSE: u32 = 0xFFFF_FFFF;
 /// The most words of an image or a tree in a case file, and the most words of a room for the reader. (A comparison
 /// also prints larger trees.)
 pub const MOST_WORDS: usize = 20_700;
-/// The most text bytes of a case, and the most bytes of a room for the writer and the printout. (A comparison also
+/// The most text bytes of a case, and the most bytes of a room for the writers, the moves and the printout. (A comparison also
 /// prints longer texts and lends more room.)
 pub const MOST_BYTES: usize = 65_600;
 /// The most words of a tree in a case file. (A comparison also lends larger ones.)
@@ -41,7 +42,14 @@ pub enum Case {
         room: u32,
     },
     Write {
+        form: Form,
         image: Image,
+        room: u32,
+    },
+    /// A move to a form from the other one.
+    Move {
+        to: Form,
+        text: Text,
         room: u32,
     },
     Check {
@@ -71,11 +79,18 @@ impl Case {
             Case::Shape { .. } => 1,
             Case::Scan { .. } => 2,
             Case::Read { .. } => 3,
-            Case::Write { .. } => 4,
+            Case::Write {
+                form: Form::One, ..
+            } => 4,
             Case::Check { .. } => 5,
             Case::Parse { .. } => 6,
             Case::Leaf { .. } => 7,
             Case::Print { .. } => 8,
+            Case::Write {
+                form: Form::Two, ..
+            } => 9,
+            Case::Move { to: Form::Two, .. } => 10,
+            Case::Move { to: Form::One, .. } => 11,
         }
     }
 
@@ -84,7 +99,14 @@ impl Case {
             Case::Shape { .. } => "shape",
             Case::Scan { .. } => "scan",
             Case::Read { .. } => "read",
-            Case::Write { .. } => "write",
+            Case::Write {
+                form: Form::One, ..
+            } => "write",
+            Case::Write {
+                form: Form::Two, ..
+            } => "write2",
+            Case::Move { to: Form::Two, .. } => "form2",
+            Case::Move { to: Form::One, .. } => "form1",
             Case::Check { .. } => "check",
             Case::Parse { .. } => "parse",
             Case::Leaf { .. } => "leaf",
@@ -100,7 +122,7 @@ impl Case {
             | Case::Check { image }
             | Case::Parse { image, .. }
             | Case::Print { tree: image, .. } => Some(image),
-            Case::Read { .. } | Case::Leaf { .. } => None,
+            Case::Read { .. } | Case::Move { .. } | Case::Leaf { .. } => None,
         }
     }
 
@@ -108,6 +130,7 @@ impl Case {
         match self {
             Case::Scan { text, .. }
             | Case::Read { text, .. }
+            | Case::Move { text, .. }
             | Case::Parse { text, .. }
             | Case::Leaf { text, .. }
             | Case::Print { text, .. } => Some(text),
@@ -125,9 +148,10 @@ impl Case {
                 allowance,
                 ..
             } => [start, set as u32, (set >> 32) as u32, allowance, 0, 0, 0],
-            Case::Read { room, .. } | Case::Write { room, .. } | Case::Print { room, .. } => {
-                [room, 0, 0, 0, 0, 0, 0]
-            }
+            Case::Read { room, .. }
+            | Case::Write { room, .. }
+            | Case::Move { room, .. }
+            | Case::Print { room, .. } => [room, 0, 0, 0, 0, 0, 0],
             Case::Parse {
                 tree, allowance, ..
             } => [tree, allowance, 0, 0, 0, 0, 0],
@@ -255,8 +279,14 @@ impl<'f> CaseReader<'f> {
                 text,
                 room: limited(a, MOST_WORDS, "words of room")? as u32,
             },
-            4 => Case::Write {
+            4 | 9 => Case::Write {
+                form: if kind == 4 { Form::One } else { Form::Two },
                 image,
+                room: limited(a, MOST_BYTES, "bytes of room")? as u32,
+            },
+            10 | 11 => Case::Move {
+                to: if kind == 11 { Form::One } else { Form::Two },
+                text,
                 room: limited(a, MOST_BYTES, "bytes of room")? as u32,
             },
             5 => Case::Check { image },
@@ -356,9 +386,22 @@ pub fn answer(engine: &Engine, case: &Case) -> Vec<u64> {
             let read = (engine.read)(text, &mut lent);
             vec![read.code.into(), read.number.into(), checksum(lent)]
         }
-        Case::Write { image, room } => {
+        Case::Write { form, image, room } => {
             let mut lent = byte_pattern(*room);
-            let written = (engine.write)(image, &mut lent);
+            let write = match form {
+                Form::One => engine.write,
+                Form::Two => engine.write2,
+            };
+            let written = write(image, &mut lent);
+            vec![written.code.into(), written.number.into(), checksum(lent)]
+        }
+        Case::Move { to, text, room } => {
+            let mut lent = byte_pattern(*room);
+            let change = match to {
+                Form::One => engine.form1,
+                Form::Two => engine.form2,
+            };
+            let written = change(text, &mut lent);
             vec![written.code.into(), written.number.into(), checksum(lent)]
         }
         Case::Check { image } => {

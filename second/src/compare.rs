@@ -5,7 +5,8 @@ use std::collections::BTreeMap;
 use crate::cases::{answer, line, Case};
 use crate::engine::Engine;
 use crate::gen::mix::{Kinds, Mix};
-use crate::numbers::{DONE, QUERY_LONG, SHAPE};
+use crate::numbers::{DONE, QUERY_LONG, SHAPE, TEXT_LIMIT, TEXT_LONG};
+use crate::text::Form;
 
 /// How a comparison went.
 #[derive(Default)]
@@ -19,6 +20,10 @@ pub struct Comparison {
     pub parses_run: usize,
     /// Printouts that are made.
     pub printouts: usize,
+    /// Texts that are moved from one form to the other.
+    pub moved: usize,
+    /// Texts whose other form would be over the limit, by the form that they are moved to.
+    pub too_long: BTreeMap<Form, usize>,
     pub difference: Option<Difference>,
 }
 
@@ -38,6 +43,10 @@ impl Comparison {
             Case::Check { .. } if !refused => self.checks_past_shape += 1,
             Case::Parse { .. } if !refused => self.parses_run += 1,
             Case::Print { .. } if code == DONE.into() => self.printouts += 1,
+            Case::Move { .. } if code == DONE.into() => self.moved += 1,
+            Case::Move { to, text, .. } if code == TEXT_LONG.into() && text.len() <= TEXT_LIMIT => {
+                *self.too_long.entry(*to).or_default() += 1;
+            }
             _ => (),
         }
     }
@@ -80,6 +89,15 @@ pub fn table(comparison: &Comparison) -> String {
         ),
         ("parses that get to their run", comparison.parses_run),
         ("printouts that are made", comparison.printouts),
+        ("texts moved from one form to the other", comparison.moved),
+        (
+            "texts whose form 1 alone is over the limit",
+            comparison.too_long.get(&Form::One).copied().unwrap_or(0),
+        ),
+        (
+            "texts whose form 2 alone is over the limit",
+            comparison.too_long.get(&Form::Two).copied().unwrap_or(0),
+        ),
     ];
     for (what, count) in reached {
         lines.push_str(&format!("{count:9}  {what}\n"));
@@ -107,9 +125,10 @@ pub fn describe(difference: &Difference, names: [&str; 2]) -> String {
             allowance,
             ..
         } => format!(", start {start}, set {set:016x}, allowance {allowance}"),
-        Case::Read { room, .. } | Case::Write { room, .. } | Case::Print { room, .. } => {
-            format!(", room {room}")
-        }
+        Case::Read { room, .. }
+        | Case::Write { room, .. }
+        | Case::Move { room, .. }
+        | Case::Print { room, .. } => format!(", room {room}"),
         Case::Parse {
             tree, allowance, ..
         } => format!(", tree {tree} words, allowance {allowance}"),

@@ -17,10 +17,16 @@ pub struct Engine {
     pub shape: fn(&[u16]) -> Shaped,
     /// Image, text, start, set and allowance.
     pub scan: fn(&[u16], &[u8], usize, Set, u32) -> Scanned,
-    /// Text, and room for the image.
+    /// Text of either form, and room for the image.
     pub read: fn(&[u8], &mut [u16]) -> Written,
-    /// Image, and room for the text.
+    /// Image, and room for the text of form 1.
     pub write: fn(&[u16], &mut [u8]) -> Written,
+    /// Image, and room for the text of form 2.
+    pub write2: fn(&[u16], &mut [u8]) -> Written,
+    /// Text of form 1, and room for that of form 2.
+    pub form2: fn(&[u8], &mut [u8]) -> Written,
+    /// Text of form 2, and room for that of form 1.
+    pub form1: fn(&[u8], &mut [u8]) -> Written,
     pub check: fn(&[u16]) -> Checked,
     /// Image, text, tree and allowance.
     pub parse: fn(&[u16], &[u8], &mut [u16], u32) -> Parsed,
@@ -37,6 +43,9 @@ pub const SECOND: Engine = Engine {
     scan: scan::scan,
     read: text::read,
     write: text::write,
+    write2: text::write2,
+    form2: text::form2,
+    form1: text::form1,
     check: check::check,
     parse: parse::parse,
     leaf: leaf::part,

@@ -4,9 +4,9 @@ use std::collections::BTreeMap;
 
 use crate::cases::{Case, CaseReader, MOST_WORDS};
 use crate::check::{self, check, Edges, Failing};
-use crate::gen::damage::TextBreak;
+use crate::gen::damage::{CellBreak, TextBreak};
 use crate::gen::mix::{Kinds, Mix};
-use crate::image::{Action, Pack, FIRST_NONTERMINAL, SIZE_NAMES};
+use crate::image::{Action, Pack, Sizes, FIRST_NONTERMINAL, LAYOUT_PLACE, SIZE_NAMES, SIZE_PLACE};
 use crate::leaf;
 use crate::looks::{Look, Looks};
 use crate::numbers::*;
@@ -15,7 +15,7 @@ use crate::print::{print, Printed};
 use crate::scan::{scan, Meter, Scanner};
 use crate::sets::{self, Set};
 use crate::shape::{self, Rule};
-use crate::text::{read, words_of, write, Line};
+use crate::text::{move_to, read, text_in, words_of, write_in, Form, Line};
 
 /// Counts by name, with a name for everything that has to be hit.
 pub struct Hits {
@@ -96,6 +96,31 @@ const MET: [&str; 9] = [
     "parse code 13: one move short of code 0",
 ];
 
+/// What texts of two forms have to meet beside their codes. A text that is over the limit in the other form alone is in a
+/// narrow band, and has to be aimed at.
+const FORMS: [&str; 20] = [
+    "read code 0: form 2, a line of act empty",
+    "read code 0: form 2, a line of goto empty",
+    "read code 0: form 2, a line of move empty",
+    "read code 0: form 2, a full row",
+    "read code 0: form 2, 65535 bytes",
+    "write code 0: form 2 is over the limit",
+    "write code 2: form 2 is not",
+    "write2 code 0: form 1 is over the limit",
+    "write2 code 2: form 1 is not",
+    "write2 code 0: 65535 bytes",
+    "form2 code 1: the first line of form 2",
+    "form1 code 1: the first line of form 1",
+    "form2 code 2: the source",
+    "form1 code 2: the source",
+    "form2 code 2: the target",
+    "form1 code 2: the target",
+    "form2 code 0: no byte more would fit",
+    "form1 code 0: no byte more would fit",
+    "form2 code 3: one byte short",
+    "form1 code 3: one byte short",
+];
+
 /// What a printout has to meet beside its codes.
 const PRINTED: [&str; 12] = [
     "print code 0: one leaf",
@@ -140,6 +165,15 @@ pub fn wanted() -> Vec<String> {
     names.extend(Line::ALL.map(|line| format!("read code 1: line {}", line.name())));
     names.extend(TextBreak::ALL.map(|how| format!("text break {how:?}")));
     names.extend([0, 2, 3, 4].map(|code| format!("write code {code}")));
+    names.extend([0, 2, 3, 4].map(|code| format!("read code {code}: form 2")));
+    let lines = Line::ALL.into_iter().filter(|&line| line != Line::Pack);
+    names.extend(lines.map(|line| format!("read code 1: form 2, line {}", line.name())));
+    names.extend(CellBreak::ALL.map(|how| format!("cell break {how:?}")));
+    names.extend([0, 2, 3, 4].map(|code| format!("write2 code {code}")));
+    for to in ["form2", "form1"] {
+        names.extend([0, 1, 2, 3, 4].map(|code| format!("{to} code {code}")));
+    }
+    names.extend(FORMS.map(str::to_string));
     names.extend([0, 4, 5].map(|code| format!("check code {code}")));
     for condition in 1..=6 {
         names.extend(SPOTS.map(|spot| format!("check code 5: K{condition} {spot}")));
@@ -210,17 +244,53 @@ impl Hits {
             Case::Read { text, room } => {
                 let mut lent = [0; MOST_WORDS];
                 let code = read(text, &mut lent[..*room as usize]).code;
+                let second = Form::of(text) == Some(Form::Two);
                 self.hit(format!("read code {code}"));
                 if code == TEXT_FORM {
                     if let Err(malformed) = words_of(text) {
-                        self.hit(format!("read code 1: line {}", malformed.line.name()));
+                        let name = malformed.line.name();
+                        self.hit(format!("read code 1: line {name}"));
+                        if second {
+                            self.hit(format!("read code 1: form 2, line {name}"));
+                        }
                     }
+                } else if second {
+                    self.hit(format!("read code {code}: form 2"));
+                }
+                if second && code == DONE {
+                    let pack = Pack::new(&lent[..pack_words(&lent)]);
+                    self.count_form_two(text, &pack);
                 }
             }
-            Case::Write { image, room } => {
+            Case::Write { form, image, room } => {
                 let mut lent = vec![0; *room as usize];
-                let code = write(image, &mut lent).code;
-                self.hit(format!("write code {code}"));
+                let written = write_in(*form, image, &mut lent);
+                self.hit(format!("{} code {}", case.name(), written.code));
+                self.count_written(*form, image, written.code, written.number as usize);
+            }
+            Case::Move { to, text, room } => {
+                let mut lent = vec![0; *room as usize];
+                let moved = move_to(*to, text, &mut lent);
+                let (room, number) = (*room as usize, moved.number as usize);
+                let name = case.name();
+                self.hit(format!("{name} code {}", moved.code));
+                match moved.code {
+                    TEXT_FORM if Form::of(text) == Some(*to) => {
+                        let wrong = to.number();
+                        self.hit(format!("{name} code 1: the first line of form {wrong}"));
+                    }
+                    TEXT_LONG if text.len() > TEXT_LIMIT => {
+                        self.hit(format!("{name} code 2: the source"));
+                    }
+                    TEXT_LONG => self.hit(format!("{name} code 2: the target")),
+                    DONE if number == room => {
+                        self.hit(format!("{name} code 0: no byte more would fit"));
+                    }
+                    ROOM_SMALL if number == room + 1 => {
+                        self.hit(format!("{name} code 3: one byte short"));
+                    }
+                    _ => (),
+                }
             }
             Case::Check { image } => {
                 self.hit(format!("check code {}", check(image).code));
@@ -287,6 +357,43 @@ impl Hits {
                 self.hit(format!("print code {}", printed.code));
                 self.count_print(text, tree, *room as usize, printed);
             }
+        }
+    }
+
+    /// What a text of form 2 that is read holds.
+    fn count_form_two(&mut self, text: &[u8], pack: &Pack) {
+        let sizes = pack.sizes;
+        let act = (0..sizes.states).map(|s| pack.act_row(s));
+        let goto = (0..sizes.states).map(|s| pack.goto_row(s));
+        let moves = (0..sizes.scan_states).map(|q| pack.move_row(q));
+        let empty = |row: &[u16]| row.iter().all(|&code| code == 0);
+        let met = [
+            act.clone().any(empty),
+            goto.clone().any(empty),
+            moves.clone().any(empty),
+            act.chain(goto).chain(moves).any(|row| !row.contains(&0)),
+            text.len() == TEXT_LIMIT,
+        ];
+        for (name, _) in FORMS.into_iter().zip(met).filter(|(_, met)| *met) {
+            self.hit(name);
+        }
+    }
+
+    /// What a writer meets: the other form of the image beside the one that it writes.
+    fn count_written(&mut self, form: Form, image: &[u16], code: u32, number: usize) {
+        if code != DONE && code != TEXT_LONG {
+            return;
+        }
+        let over = text_in(form.other(), &Pack::new(image)).len() > TEXT_LIMIT;
+        match (form, code, over) {
+            (Form::One, DONE, true) => self.hit(FORMS[5]),
+            (Form::One, TEXT_LONG, false) => self.hit(FORMS[6]),
+            (Form::Two, DONE, true) => self.hit(FORMS[7]),
+            (Form::Two, TEXT_LONG, false) => self.hit(FORMS[8]),
+            _ => (),
+        }
+        if form == Form::Two && code == DONE && number == TEXT_LIMIT {
+            self.hit(FORMS[9]);
         }
     }
 
@@ -431,6 +538,13 @@ impl Hits {
     }
 }
 
+/// How many words the image at the front of a room has.
+fn pack_words(room: &[u16]) -> usize {
+    Sizes::from_words(&room[SIZE_PLACE..LAYOUT_PLACE])
+        .places()
+        .end
+}
+
 /// Is there a way back from state s by production p along which all is well?
 fn some_way_back(pack: &Pack, edges: &Edges, [s, p]: [usize; 2]) -> bool {
     let mut reached = vec![s];
@@ -527,7 +641,7 @@ fn sides(set: Set, layout: Set) -> usize {
     }
 }
 
-/// Counts the hits of a case file. The ways to break a text are not seen in it, and what is too large for one is not
+/// Counts the hits of a case file. The ways to break a text and its cells are not seen in it, and what is too large for one is not
 /// there.
 pub fn of_file(file: &[u8]) -> Result<BTreeMap<String, usize>, String> {
     let mut hits = Hits::new();
@@ -535,7 +649,8 @@ pub fn of_file(file: &[u8]) -> Result<BTreeMap<String, usize>, String> {
         hits.count(&case?);
     }
     hits.counts.retain(|name, _| {
-        !name.starts_with("text break") && !PRINTED_LARGE.contains(&name.as_str())
+        let breaks = name.starts_with("text break") || name.starts_with("cell break");
+        !breaks && !PRINTED_LARGE.contains(&name.as_str())
     });
     Ok(hits.counts)
 }
@@ -553,6 +668,9 @@ pub fn run(cases: usize, seed: u64) -> Hits {
     }
     for (how, count) in &mix.breaks {
         hits.counts.insert(format!("text break {how:?}"), *count);
+    }
+    for (how, count) in &mix.cell_breaks {
+        hits.counts.insert(format!("cell break {how:?}"), *count);
     }
     hits.drops = mix.drops.reasons;
     hits

@@ -9,17 +9,20 @@ use second::compare::{compare, describe, table};
 use second::engine::{OTHERS, SECOND};
 use second::gen::mix::Kinds;
 use second::hits;
+use second::numbers::{DONE, TEXT_LIMIT};
 use second::promise;
 use second::readq::readq;
 use second::store::{store, File};
+use second::text::{move_to, Form};
 
 const USAGE: &str = "\
-usage: second write-cases SEED scan|text|parse|print CASES_OUT ANSWERS_OUT
+usage: second write-cases SEED scan|text|parse|print|forms CASES_OUT ANSWERS_OUT
        second answer CASES_IN ANSWERS_OUT
        second hits N SEED
        second promise N SEED
        second readq PACKTEXT_FILE
-       second compare N SEED [all|scan|text|check|parse|print [ENGINE]]";
+       second reform 1|2
+       second compare N SEED [all|scan|text|check|parse|print|forms [ENGINE]]";
 
 fn number(word: &str) -> Result<u64, String> {
     word.parse().map_err(|_| format!("{word} is no number"))
@@ -80,6 +83,22 @@ fn show_readq(name: Option<&str>) -> Result<(), String> {
     io::stdout().write_all(lines.as_bytes()).map_err(wrong)
 }
 
+/// Moves the pack text on standard input to a form from the other one.
+fn show_reform(to: Form) -> Result<(), String> {
+    let mut text = Vec::new();
+    let wrong = |wrong: io::Error| wrong.to_string();
+    io::stdin().read_to_end(&mut text).map_err(wrong)?;
+    let mut room = vec![0; TEXT_LIMIT];
+    let moved = move_to(to, &text, &mut room);
+    match moved.code {
+        DONE => {
+            let written = &room[..moved.number as usize];
+            io::stdout().write_all(written).map_err(wrong)
+        }
+        code => Err(format!("code={code}\nplace={}", moved.number)),
+    }
+}
+
 fn show_compare(cases: usize, seed: u64, kinds: &str, name: &str) -> Result<(), String> {
     let wanted = Kinds::by_name(kinds).ok_or_else(|| format!("{kinds} is no kind of cases"))?;
     let other = OTHERS.iter().find(|engine| engine.name == name);
@@ -106,6 +125,8 @@ fn run(words: &[&str]) -> Result<(), String> {
         ["hits", cases, seed] => show_hits(count(cases)?, number(seed)?),
         ["promise", parses, seed] => show_promise(count(parses)?, number(seed)?),
         ["readq", ref names @ ..] => show_readq(names.first().copied()),
+        ["reform", "1"] => show_reform(Form::One),
+        ["reform", "2"] => show_reform(Form::Two),
         ["compare", cases, seed, ref rest @ ..] if rest.len() <= 2 => {
             let kinds = rest.first().unwrap_or(&"all");
             let name = rest.get(1).unwrap_or(&"proved");

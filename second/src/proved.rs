@@ -46,6 +46,33 @@ extern "C" {
         out_len: usize,
     ) -> usize;
 
+    fn zhg_write2(
+        img: *const u16,
+        img_words: usize,
+        buffer: *mut u8,
+        buffer_bytes: usize,
+        out: *mut u64,
+        out_len: usize,
+    ) -> usize;
+
+    fn zhg_form2(
+        text: *const u8,
+        text_bytes: usize,
+        buffer: *mut u8,
+        buffer_bytes: usize,
+        out: *mut u64,
+        out_len: usize,
+    ) -> usize;
+
+    fn zhg_form1(
+        text: *const u8,
+        text_bytes: usize,
+        buffer: *mut u8,
+        buffer_bytes: usize,
+        out: *mut u64,
+        out_len: usize,
+    ) -> usize;
+
     fn zhg_check(img: *const u16, img_words: usize, out: *mut u64, out_len: usize) -> usize;
 
     fn zhg_parse(
@@ -151,6 +178,28 @@ fn write(image: &[u16], room: &mut [u8]) -> Written {
     Written { code, number }
 }
 
+fn write2(image: &[u16], room: &mut [u8]) -> Written {
+    let (lent, bytes) = (room.as_mut_ptr(), room.len());
+    let [code, number] = small(|out, room| unsafe {
+        zhg_write2(image.as_ptr(), image.len(), lent, bytes, out, room)
+    });
+    Written { code, number }
+}
+
+fn form2(text: &[u8], room: &mut [u8]) -> Written {
+    let (lent, bytes) = (room.as_mut_ptr(), room.len());
+    let [code, number] =
+        small(|out, room| unsafe { zhg_form2(text.as_ptr(), text.len(), lent, bytes, out, room) });
+    Written { code, number }
+}
+
+fn form1(text: &[u8], room: &mut [u8]) -> Written {
+    let (lent, bytes) = (room.as_mut_ptr(), room.len());
+    let [code, number] =
+        small(|out, room| unsafe { zhg_form1(text.as_ptr(), text.len(), lent, bytes, out, room) });
+    Written { code, number }
+}
+
 fn check(image: &[u16]) -> Checked {
     let [code, numbers @ ..]: [u32; 4] =
         small(|out, room| unsafe { zhg_check(image.as_ptr(), image.len(), out, room) });
@@ -230,6 +279,9 @@ pub const PROVED: Engine = Engine {
     scan,
     read,
     write,
+    write2,
+    form2,
+    form1,
     check,
     parse,
     leaf,

@@ -6,24 +6,27 @@ use std::rc::Rc;
 use crate::cases::{answers, Case, CaseWriter, Image, Text};
 use crate::engine::SECOND;
 use crate::gen::mix::{Kinds, Mix};
-use crate::gen::wide::with_text_length;
+use crate::gen::rng::Rng;
+use crate::gen::wide::{with_length, with_text_length};
 use crate::image::Pack;
 use crate::marked::*;
 use crate::numbers::TEXT_LIMIT;
 use crate::sets::Set;
-use crate::text::text_of;
+use crate::text::{text_in, text_of, Form};
 
-/// The four files.
+/// The five files.
 #[derive(Clone, Copy, Debug, PartialEq, Eq)]
 pub enum File {
     /// Shape, and the scan called by itself.
     Scan,
-    /// Reader and writer.
+    /// Reader and writer of form 1.
     Text,
     /// Check, parse and leaf.
     Parse,
     /// The printout.
     Print,
+    /// Reader and writer of form 2, and the moves between the forms.
+    Forms,
 }
 
 impl File {
@@ -33,6 +36,7 @@ impl File {
             "text" => Some(File::Text),
             "parse" => Some(File::Parse),
             "print" => Some(File::Print),
+            "forms" => Some(File::Forms),
             _ => None,
         }
     }
@@ -41,6 +45,7 @@ impl File {
     fn bytes(self) -> usize {
         match self {
             File::Print => 25_000,
+            File::Forms => 640_000,
             _ => 445_000,
         }
     }
@@ -56,6 +61,7 @@ pub fn store(file: File, seed: u64) -> Result<(Vec<u8>, String), String> {
             ..Kinds::PARSE
         },
         File::Print => Kinds::PRINT,
+        File::Forms => Kinds::FORMS,
     };
     let mut mix = Mix::new(seed, kinds, true);
     let mut writer = CaseWriter::new();
@@ -64,6 +70,7 @@ pub fn store(file: File, seed: u64) -> Result<(Vec<u8>, String), String> {
         File::Text => text_cases(&mut mix),
         File::Parse => parse_cases(&mut mix),
         File::Print => print_cases(),
+        File::Forms => form_cases(&mut mix),
     };
     first.iter().for_each(|case| writer.put(case));
     while writer.bytes.len() < file.bytes() {
@@ -205,6 +212,7 @@ fn text_cases(mix: &mut Mix) -> Vec<Case> {
         }
         for room in [bytes, bytes + 9, bytes - 1, 0] {
             cases.push(Case::Write {
+                form: Form::One,
                 image: image.clone(),
                 room,
             });
@@ -224,6 +232,7 @@ fn text_cases(mix: &mut Mix) -> Vec<Case> {
         let image: Image = Rc::new(with_text_length(length));
         for room in [65_600, 65_535, 65_534, 0] {
             cases.push(Case::Write {
+                form: Form::One,
                 image: image.clone(),
                 room,
             });
@@ -241,6 +250,226 @@ fn text_cases(mix: &mut Mix) -> Vec<Case> {
         cases.push(Case::Read { text, room: 200 });
     }
     cases
+}
+
+fn moves(to: Form, text: &Text, rooms: &[u32], cases: &mut Vec<Case>) {
+    cases.extend(rooms.iter().map(|&room| Case::Move {
+        to,
+        text: text.clone(),
+        room,
+    }));
+}
+
+fn form_cases(mix: &mut Mix) -> Vec<Case> {
+    let mut cases = Vec::new();
+    for pack_text in [SMALL_PACK, FORM_PACK, KEYWORD_PACK, LEAST_PACK] {
+        let image: Image = Rc::new(image_of(pack_text));
+        let texts = Form::ALL.map(|form| text(&text_in(form, &Pack::new(&image))));
+        let words = image.len() as u32;
+        let [one, two] = texts.clone().map(|text| text.len() as u32);
+        for room in [two, two + 9, two - 1, 0] {
+            cases.push(Case::Write {
+                form: Form::Two,
+                image: image.clone(),
+                room,
+            });
+        }
+        for room in [words, words + 9, words - 1, 0] {
+            cases.push(Case::Read {
+                text: texts[1].clone(),
+                room,
+            });
+        }
+        moves(
+            Form::Two,
+            &texts[0],
+            &[two, two + 9, two - 1, 0],
+            &mut cases,
+        );
+        moves(
+            Form::One,
+            &texts[1],
+            &[one, one + 9, one - 1, 0],
+            &mut cases,
+        );
+        // The wrong first line for the move.
+        moves(Form::One, &texts[0], &[one, 0], &mut cases);
+        moves(Form::Two, &texts[1], &[two, 0], &mut cases);
+    }
+    // The first line alone, with its LF and without.
+    for first in ["pack=1", "pack=2", "pack=3", "pack=02", "pack=22", "pack="] {
+        for end in ["", "\n"] {
+            let text = text(format!("{first}{end}").as_bytes());
+            for to in Form::ALL {
+                moves(to, &text, &[9], &mut cases);
+            }
+            cases.push(Case::Read { text, room: 9 });
+        }
+    }
+    // A line of the small pack in form 2 as others would have it, of each of the three tables, and lines that may not be empty.
+    let small =
+        String::from_utf8_lossy(&text_in(Form::Two, &Pack::new(&small_image()))).into_owned();
+    for (name, number, rest) in CELL_LINES {
+        let text = text(with_line(&small, name, number, rest).as_bytes());
+        moves(Form::One, &text, &[900], &mut cases);
+        cases.push(Case::Read { text, room: 200 });
+    }
+    // A group's line, in a pack that has one.
+    let grouped = text_in(Form::Two, &Pack::new(&image_of(GROUP_PACK)));
+    let grouped = String::from_utf8_lossy(&grouped).into_owned();
+    for (right, wrong) in [("group=", "group=,"), (",2\n", ",02\n"), (",2\n", ":2\n")] {
+        let place = grouped.rfind(right).unwrap();
+        let text = text(
+            [&grouped[..place], wrong, &grouped[place + right.len()..]]
+                .concat()
+                .as_bytes(),
+        );
+        moves(Form::One, &text, &[900], &mut cases);
+        cases.push(Case::Read { text, room: 300 });
+    }
+    // It is cut at each line's start and end.
+    for (place, _) in small.match_indices('\n') {
+        for cut in [place, place + 1] {
+            let text = text(&small.as_bytes()[..cut]);
+            moves(Form::One, &text, &[900], &mut cases);
+            cases.push(Case::Read { text, room: 200 });
+        }
+    }
+    for more in ["\n", "x", "group=\n", "pack=2\n", "move=\n"] {
+        let text = text(format!("{small}{more}").as_bytes());
+        moves(Form::One, &text, &[900], &mut cases);
+        cases.push(Case::Read { text, room: 200 });
+    }
+    // Each rule of the shape broken, in an image.
+    for image in mix.broken_rules() {
+        cases.push(Case::Write {
+            form: Form::Two,
+            image,
+            room: 900,
+        });
+    }
+    // And broken in each of the ways.
+    for text in mix.broken_cells(small.as_bytes()) {
+        moves(Form::One, &text, &[900], &mut cases);
+        cases.push(Case::Read { text, room: 200 });
+    }
+    // Packs of the greatest sizes whose text of one form has 65,536 bytes, and for form 2 also 65,535, and that of the other form
+    // fewer.
+    for (form, length, digits) in [
+        (Form::One, TEXT_LIMIT + 1, 3),
+        (Form::Two, TEXT_LIMIT + 1, 1),
+        (Form::Two, TEXT_LIMIT, 1),
+    ] {
+        let image: Image = Rc::new(with_length(&mut Rng::new(1), form, length, digits));
+        let [target, source] =
+            [form, form.other()].map(|form| text(&text_in(form, &Pack::new(&image))));
+        moves(form, &source, &[65_600, 65_535, 65_534, 0], &mut cases);
+        if form == Form::One {
+            cases.push(Case::Read {
+                text: source,
+                room: 20_700,
+            });
+        }
+        if form == Form::Two {
+            for room in [20_700, 20_588, 0] {
+                let text = target.clone();
+                cases.push(Case::Read { text, room });
+            }
+            moves(Form::One, &target, &[65_600, 0], &mut cases);
+            moves(Form::Two, &target, &[65_600, 0], &mut cases);
+        }
+        for form in Form::ALL {
+            for room in [65_600, 65_535, 65_534, 0] {
+                let image = image.clone();
+                cases.push(Case::Write { form, image, room });
+            }
+        }
+    }
+    cases
+}
+
+/// Lines of the small pack in form 2, each by its name and its number among those of that name, and what stands after the `=`.
+/// The rows have 4, 1 and 5 columns.
+const CELL_LINES: [(&str, usize, &str); 62] = [
+    ("act", 0, "2:4"),
+    ("act", 0, ""),
+    ("act", 0, "0:3"),
+    ("act", 0, "0:1"),
+    ("act", 0, "1:3,2:4"),
+    ("act", 0, "0:3,1:3,2:3"),
+    ("act", 0, "3:3"),
+    ("act", 0, "2:65535"),
+    ("act", 0, "2:65536"),
+    ("act", 0, "2:12"),
+    ("act", 0, "4:3"),
+    ("act", 0, "2:4,4:3"),
+    ("act", 0, "65535:3"),
+    ("act", 0, "65536:3"),
+    ("act", 0, "65538:3"),
+    ("act", 0, "4294967298:3"),
+    ("act", 0, "2:4,1:3"),
+    ("act", 0, "2:4,0:3"),
+    ("act", 0, "2:4,2:4"),
+    ("act", 0, "2:4,2:6"),
+    ("act", 0, "0:3,2:4,1:3"),
+    ("act", 0, "2:0"),
+    ("act", 0, "0:0,2:4"),
+    ("act", 0, "2:4,3:0"),
+    ("act", 0, "02:4"),
+    ("act", 0, "2:04"),
+    ("act", 0, "00:3"),
+    ("act", 0, "2:00"),
+    ("act", 0, "2:"),
+    ("act", 0, ":4"),
+    ("act", 0, ":"),
+    ("act", 0, "2"),
+    ("act", 0, "0"),
+    ("act", 0, "0,0,4,0"),
+    ("act", 0, "2:4:4"),
+    ("act", 0, "2::4"),
+    ("act", 0, ":2:4"),
+    ("act", 0, "2:4:"),
+    ("act", 0, ","),
+    ("act", 0, ",2:4"),
+    ("act", 0, "2:4,"),
+    ("act", 0, "1:3,,2:4"),
+    ("act", 0, " 2:4"),
+    ("act", 0, "2: 4"),
+    ("act", 0, "2 :4"),
+    ("act", 0, "2:4\r"),
+    ("act", 0, "2;4"),
+    ("act", 0, "+2:4"),
+    ("act", 0, "2:-4"),
+    ("act", 0, "2:4\n"),
+    ("act", 4, ""),
+    ("goto", 0, ""),
+    ("goto", 0, "0:5"),
+    ("goto", 0, "0:6"),
+    ("goto", 0, "1:5"),
+    ("goto", 4, "0:1"),
+    ("move", 0, ""),
+    ("move", 4, "4:5,5:1"),
+    ("move", 4, "4:6"),
+    ("class", 0, ""),
+    ("layout", 0, ""),
+    ("scan", 4, ""),
+];
+
+/// A text with one line's rest replaced.
+fn with_line(text: &str, name: &str, number: usize, rest: &str) -> String {
+    let start = format!("{name}=");
+    let mut seen = 0;
+    let mut lines = String::new();
+    for line in text.split_inclusive('\n') {
+        let named = line.starts_with(&start);
+        if named && seen == number {
+            lines.push_str(&format!("{start}{rest}\n"));
+        } else {
+            lines.push_str(line);
+        }
+        seen += usize::from(named);
+    }
+    lines
 }
 
 /// Lines that replace some of a pack's, each by its name and its number among those of that name.

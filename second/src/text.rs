@@ -1,11 +1,12 @@
-//! The text form: reader and writer.
+//! The text in its two forms: the reader, a writer of each form, and the moves from one to the other. The forms differ in their first line and
+//! in how the cells of `act`, `goto` and `move` stand in a line; all else is said once.
 
 use crate::image::{Pack, Sizes, PROD_SYMBOLS, SIZE_COUNT, SIZE_LIMITS};
 use crate::numbers::{DONE, ROOM_SMALL, SHAPE, TEXT_FORM, TEXT_LIMIT, TEXT_LONG};
 use crate::sets::{self, Set};
 use crate::shape;
 
-/// What the reader and the writer give: the code and its number (words or bytes written, place, or size needed).
+/// What the reader, the writers and the moves give: the code and its number (words or bytes written, place, or size needed).
 #[derive(Clone, Copy, Debug, PartialEq, Eq)]
 pub struct Written {
     pub code: u32,
@@ -21,7 +22,43 @@ impl Written {
     }
 }
 
-/// The lines of the form, by the name before the `=`, and what may follow the last one.
+/// The forms of a pack text, which its first line tells apart.
+#[derive(Clone, Copy, Debug, PartialEq, Eq, PartialOrd, Ord)]
+pub enum Form {
+    /// `pack=1`: a row of cells has all of them.
+    One,
+    /// `pack=2`: a row of cells has those that are not 0, each behind its column and a colon.
+    Two,
+}
+
+impl Form {
+    pub const ALL: [Form; 2] = [Form::One, Form::Two];
+
+    pub fn number(self) -> u16 {
+        match self {
+            Form::One => 1,
+            Form::Two => 2,
+        }
+    }
+
+    pub fn other(self) -> Form {
+        match self {
+            Form::One => Form::Two,
+            Form::Two => Form::One,
+        }
+    }
+
+    /// The form that a text's first line names.
+    pub fn of(text: &[u8]) -> Option<Form> {
+        let mut reader = Reader::new(text);
+        reader.first_line().ok()
+    }
+}
+
+/// Word 0 of an image, whatever the form of its text.
+const FIRST_WORD: u16 = 1;
+
+/// The lines of a text, by the name before the `=`, and what may follow the last one.
 #[derive(Clone, Copy, Debug, PartialEq, Eq, PartialOrd, Ord)]
 pub enum Line {
     Pack,
@@ -79,35 +116,86 @@ pub struct Malformed {
     pub place: usize,
 }
 
-/// Reads a pack text into the lent room.
+/// Reads a pack text of either form into the lent room.
 pub fn read(text: &[u8], room: &mut [u16]) -> Written {
+    match image_of(text, |_| true) {
+        Ok(image) => deliver(&image, room),
+        Err(refused) => refused,
+    }
+}
+
+/// Writes the text of form 1 of an image into the lent room.
+pub fn write(image: &[u16], room: &mut [u8]) -> Written {
+    write_in(Form::One, image, room)
+}
+
+/// Writes the text of form 2 of an image into the lent room.
+pub fn write2(image: &[u16], room: &mut [u8]) -> Written {
+    write_in(Form::Two, image, room)
+}
+
+pub fn write_in(form: Form, image: &[u16], room: &mut [u8]) -> Written {
+    match shape::pack(image) {
+        Ok(pack) => deliver_text(&text_in(form, &pack), room),
+        Err(fault) => Written::new(SHAPE, fault.place),
+    }
+}
+
+/// Moves a text of form 1 to form 2, into the lent room.
+pub fn form2(text: &[u8], room: &mut [u8]) -> Written {
+    move_to(Form::Two, text, room)
+}
+
+/// Moves a text of form 2 to form 1, into the lent room.
+pub fn form1(text: &[u8], room: &mut [u8]) -> Written {
+    move_to(Form::One, text, room)
+}
+
+/// Refuses 2, 1 and 4 for the source, then 2 and 3 for the target.
+pub fn move_to(form: Form, text: &[u8], room: &mut [u8]) -> Written {
+    match image_of(text, |found| found == form.other()) {
+        Ok(image) => deliver_text(&text_in(form, &Pack::new(&image)), room),
+        Err(refused) => refused,
+    }
+}
+
+/// The image of a text that is not too long, in a form that is wanted, and of good shape; or the refusal.
+fn image_of(text: &[u8], wanted: impl Fn(Form) -> bool) -> Result<Vec<u16>, Written> {
+    if text.len() > TEXT_LIMIT {
+        return Err(Written::new(TEXT_LONG, 0));
+    }
+    if !Form::of(text).is_some_and(wanted) {
+        return Err(Written::new(TEXT_FORM, 0));
+    }
+    let image = words_of(text).map_err(|malformed| Written::new(TEXT_FORM, malformed.place))?;
+    match shape::pack(&image) {
+        Ok(_) => Ok(image),
+        Err(fault) => Err(Written::new(SHAPE, fault.place)),
+    }
+}
+
+fn deliver_text(text: &[u8], room: &mut [u8]) -> Written {
     if text.len() > TEXT_LIMIT {
         return Written::new(TEXT_LONG, 0);
     }
-    let image = match words_of(text) {
-        Ok(image) => image,
-        Err(malformed) => return Written::new(TEXT_FORM, malformed.place),
-    };
-    if let Err(fault) = shape::pack(&image) {
-        return Written::new(SHAPE, fault.place);
-    }
-    match room.get_mut(..image.len()) {
-        None => Written::new(ROOM_SMALL, image.len()),
+    deliver(text, room)
+}
+
+/// Puts the output at the front of the room, if there is room for all of it.
+fn deliver<X: Copy>(output: &[X], room: &mut [X]) -> Written {
+    match room.get_mut(..output.len()) {
+        None => Written::new(ROOM_SMALL, output.len()),
         Some(front) => {
-            front.copy_from_slice(&image);
-            Written::new(DONE, image.len())
+            front.copy_from_slice(output);
+            Written::new(DONE, output.len())
         }
     }
 }
 
-/// The words of a text of the form, of whatever shape.
+/// The words of a text of either form, of whatever shape.
 pub fn words_of(text: &[u8]) -> Result<Vec<u16>, Malformed> {
-    let mut reader = Reader {
-        text,
-        place: 0,
-        words: Vec::new(),
-    };
-    reader.line(Line::Pack, pack_line)?;
+    let mut reader = Reader::new(text);
+    let form = reader.first_line()?;
     reader.line(Line::Size, size_line)?;
     let sizes = Sizes::from_words(&reader.words[1..]);
     reader.lines(1, Line::Layout, |fields, words| sets_line(fields, words, 1))?;
@@ -116,16 +204,16 @@ pub fn words_of(text: &[u8]) -> Result<Vec<u16>, Malformed> {
     })?;
     reader.lines(sizes.productions, Line::Prod, prod_line)?;
     reader.lines(sizes.states, Line::Act, |fields, words| {
-        numbers_line(fields, words, sizes.terminals)
+        cells_line(form, fields, words, sizes.terminals)
     })?;
     reader.lines(sizes.states, Line::Goto, |fields, words| {
-        numbers_line(fields, words, sizes.nonterminals)
+        cells_line(form, fields, words, sizes.nonterminals)
     })?;
     reader.lines(sizes.ranges, Line::Class, |fields, words| {
         numbers_line(fields, words, 3)
     })?;
     reader.lines(sizes.scan_states, Line::Move, |fields, words| {
-        numbers_line(fields, words, sizes.classes)
+        cells_line(form, fields, words, sizes.classes)
     })?;
     reader.lines(sizes.scan_states, Line::Scan, |fields, words| {
         sets_line(fields, words, 3)
@@ -144,7 +232,33 @@ struct Reader<'t> {
 /// The fields of one line.
 type Fields<'f> = [&'f [u8]];
 
-impl Reader<'_> {
+impl<'t> Reader<'t> {
+    fn new(text: &'t [u8]) -> Reader<'t> {
+        Reader {
+            text,
+            place: 0,
+            words: Vec::new(),
+        }
+    }
+
+    /// Reads `pack=1` or `pack=2`. The image begins alike in both forms.
+    fn first_line(&mut self) -> Result<Form, Malformed> {
+        let mut form = None;
+        self.line(Line::Pack, |fields, words| {
+            let [field] = fields else {
+                return None;
+            };
+            let number = number(field)?;
+            form = Form::ALL.into_iter().find(|form| form.number() == number);
+            words.push(FIRST_WORD);
+            form.map(|_| ())
+        })?;
+        form.ok_or(Malformed {
+            line: Line::Pack,
+            place: 0,
+        })
+    }
+
     /// Reads the line that is due; `form` appends its words, or says that it is not of the form.
     fn line<F>(&mut self, line: Line, form: F) -> Result<(), Malformed>
     where
@@ -183,11 +297,6 @@ impl Reader<'_> {
     }
 }
 
-fn pack_line(fields: &Fields, words: &mut Vec<u16>) -> Option<()> {
-    numbers_line(fields, words, 1)?;
-    (words[0] == 1).then_some(())
-}
-
 fn size_line(fields: &Fields, words: &mut Vec<u16>) -> Option<()> {
     numbers_line(fields, words, SIZE_COUNT)?;
     let in_range = words[1..]
@@ -220,6 +329,33 @@ fn numbers_line(fields: &Fields, words: &mut Vec<u16>, count: usize) -> Option<(
     for field in fields {
         words.push(number(field)?);
     }
+    Some(())
+}
+
+/// A row of cells, full or sparse.
+fn cells_line(form: Form, fields: &Fields, words: &mut Vec<u16>, count: usize) -> Option<()> {
+    match form {
+        Form::One => numbers_line(fields, words, count),
+        Form::Two => sparse_line(fields, words, count),
+    }
+}
+
+/// The cells that are not 0 as column:code, columns rising and inside the row. The line may be empty after its `=`.
+fn sparse_line(fields: &Fields, words: &mut Vec<u16>, count: usize) -> Option<()> {
+    let mut row = vec![0; count];
+    // The least column that may come next.
+    let mut least = 0;
+    for field in fields.iter().filter(|_| *fields != [b""]) {
+        let colon = field.iter().position(|&b| b == b':')?;
+        let column = usize::from(number(&field[..colon])?);
+        let code = number(&field[colon + 1..])?;
+        if column < least || code == 0 {
+            return None;
+        }
+        *row.get_mut(column)? = code;
+        least = column + 1;
+    }
+    words.extend(row);
     Some(())
 }
 
@@ -261,30 +397,16 @@ fn set(field: &[u8]) -> Option<Set> {
     })
 }
 
-/// Writes the text of an image into the lent room.
-pub fn write(image: &[u16], room: &mut [u8]) -> Written {
-    let pack = match shape::pack(image) {
-        Ok(pack) => pack,
-        Err(fault) => return Written::new(SHAPE, fault.place),
-    };
-    let text = text_of(&pack);
-    if text.len() > TEXT_LIMIT {
-        return Written::new(TEXT_LONG, 0);
-    }
-    match room.get_mut(..text.len()) {
-        None => Written::new(ROOM_SMALL, text.len()),
-        Some(front) => {
-            front.copy_from_slice(&text);
-            Written::new(DONE, text.len())
-        }
-    }
+/// The text of form 1 of a pack whose sizes, total length and production lengths are good.
+pub fn text_of(pack: &Pack) -> Vec<u8> {
+    text_in(Form::One, pack)
 }
 
-/// The text of a pack whose sizes, total length and production lengths are good.
-pub fn text_of(pack: &Pack) -> Vec<u8> {
+/// The text of such a pack in a form.
+pub fn text_in(form: Form, pack: &Pack) -> Vec<u8> {
     let sizes = pack.sizes;
     let mut text = Writer(String::new());
-    text.numbers(Line::Pack, &[pack.word(0)]);
+    text.numbers(Line::Pack, &[form.number()]);
     text.numbers(Line::Size, &sizes.to_words());
     text.sets(Line::Layout, &[pack.layout()]);
     for t in 0..sizes.terminals {
@@ -295,17 +417,17 @@ pub fn text_of(pack: &Pack) -> Vec<u8> {
         text.numbers(Line::Prod, &pack.words()[first..first + 2 + pack.len(p)]);
     }
     for s in 0..sizes.states {
-        text.numbers(Line::Act, pack.act_row(s));
+        text.cells(form, Line::Act, pack.act_row(s));
     }
     for s in 0..sizes.states {
-        text.numbers(Line::Goto, pack.goto_row(s));
+        text.cells(form, Line::Goto, pack.goto_row(s));
     }
     for r in 0..sizes.ranges {
         let range = pack.range(r);
         text.numbers(Line::Class, &[range.lo, range.hi, range.class]);
     }
     for q in 0..sizes.scan_states {
-        text.numbers(Line::Move, pack.move_row(q));
+        text.cells(form, Line::Move, pack.move_row(q));
     }
     for q in 0..sizes.scan_states {
         text.sets(Line::Scan, &[pack.acc(q), pack.rej(q), pack.poss(q)]);
@@ -320,11 +442,13 @@ pub fn text_of(pack: &Pack) -> Vec<u8> {
 struct Writer(String);
 
 impl Writer {
-    /// One line of at least one field.
     fn line(&mut self, line: Line, fields: impl Iterator<Item = String>) {
         self.0.push_str(line.name());
+        self.0.push('=');
         for (i, field) in fields.enumerate() {
-            self.0.push(if i == 0 { '=' } else { ',' });
+            if i > 0 {
+                self.0.push(',');
+            }
             self.0.push_str(&field);
         }
         self.0.push('\n');
@@ -332,6 +456,16 @@ impl Writer {
 
     fn numbers(&mut self, line: Line, numbers: &[u16]) {
         self.line(line, numbers.iter().map(u16::to_string));
+    }
+
+    fn cells(&mut self, form: Form, line: Line, row: &[u16]) {
+        match form {
+            Form::One => self.numbers(line, row),
+            Form::Two => {
+                let cells = row.iter().enumerate().filter(|(_, &code)| code != 0);
+                self.line(line, cells.map(|(column, code)| format!("{column}:{code}")));
+            }
+        }
     }
 
     fn sets(&mut self, line: Line, sets: &[Set]) {

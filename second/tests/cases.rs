@@ -87,6 +87,7 @@ fn the_stored_files_are_small_and_deterministic_and_cover_everything() {
         (File::Text, 300_000..450_000),
         (File::Parse, 300_000..450_000),
         (File::Print, 20_000..40_000),
+        (File::Forms, 600_000..700_000),
     ] {
         let (bytes, lines) = store(file, 1).unwrap();
         assert!(store(file, 1).unwrap() == (bytes.clone(), lines.clone()));
@@ -99,7 +100,7 @@ fn the_stored_files_are_small_and_deterministic_and_cover_everything() {
             *counts.entry(name).or_insert(0) += count;
         }
     }
-    assert!(total < 1_500_000, "{total}");
+    assert!(total < 2_150_000, "{total}");
     let missed: Vec<_> = counts.iter().filter(|(_, &count)| count == 0).collect();
     assert!(missed.is_empty(), "never hit: {missed:?}");
 }
@@ -140,7 +141,7 @@ fn what_is_no_case_file_is_refused() {
         answers(&SECOND, &file)
     };
     assert!(with(0, 0).is_err());
-    assert!(with(0, 9).is_err());
+    assert!(with(0, 12).is_err());
     assert!(with(1, 20_701).is_err());
     assert!(with(2, 65_601).is_err());
 }

@@ -1,9 +1,9 @@
-//! The generator: what each source promises, and that a run of 15,000 cases hits everything.
+//! The generator: what each source promises, and that a run of 30,000 cases hits everything.
 
 use second::check::check;
 use second::gen::borders;
 use second::gen::conditions;
-use second::gen::damage::{self, TextBreak};
+use second::gen::damage::{self, CellBreak, TextBreak};
 use second::gen::grammar::Grammar;
 use second::gen::lr::{self, Method};
 use second::gen::passing::{passing, Drops, Scale};
@@ -18,7 +18,7 @@ use second::marked::SMALL_PACK;
 use second::scan::scan;
 use second::sets;
 use second::shape::{pack, shape};
-use second::text::words_of;
+use second::text::{text_in, words_of, Form};
 
 #[test]
 fn packs_of_the_first_source_pass_at_every_scale() {
@@ -142,10 +142,29 @@ fn every_way_to_break_a_text_breaks_it() {
 }
 
 #[test]
-fn a_run_of_40_000_cases_hits_everything() {
+fn every_way_to_break_cells_breaks_them() {
+    let mut rng = Rng::new(10);
+    let mut drops = Drops::default();
+    let mut broken = std::collections::BTreeMap::new();
+    for _ in 0..60 {
+        let image = passing(&mut rng, Scale::Small, &mut drops).tables.image();
+        let good = text_in(Form::Two, &pack(&image).unwrap());
+        assert_eq!(words_of(&good), Ok(image));
+        for how in CellBreak::ALL {
+            let text = damage::cells(&mut rng, &good, how);
+            *broken.entry(how).or_insert(0) += usize::from(words_of(&text).is_err());
+        }
+    }
+    for (how, count) in broken {
+        assert_eq!(count, 60, "{how:?}");
+    }
+}
+
+#[test]
+fn a_run_of_60_000_cases_hits_everything() {
     for seed in [1, 2] {
-        let hits = hits::run(40_000, seed);
-        assert_eq!(hits.cases, 40_000);
+        let hits = hits::run(60_000, seed);
+        assert_eq!(hits.cases, 60_000);
         assert_eq!(hits.missed(), Vec::<String>::new(), "seed {seed}");
         let wanted = hits::wanted();
         let others: Vec<&String> = hits.counts.keys().filter(|n| !wanted.contains(n)).collect();

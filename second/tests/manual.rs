@@ -1,10 +1,13 @@
 //! The numbers that docs/MANUAL.md shows are those that this program gives: the small pack, the scans of section 2.3, the run of
-//! section 6.2 step by step, and the marked runs of section 6.3; and so are the two runs of README.md.
+//! section 6.2 step by step, and the marked runs of section 6.3; the lines of form 2 and the sizes of section 1.7; and so are the two runs of
+//! README.md.
 
-use second::marked::{marked_parses, small_image, SMALL_PACK};
+use second::image::Pack;
+use second::marked::{image_of, marked_parses, small_image, SMALL_PACK};
 use second::readq::readq;
 use second::scan::scan;
 use second::sets;
+use second::text::{text_in, Form};
 
 const QUERY: &str = "tax by day";
 
@@ -48,6 +51,31 @@ fn numbers(cell: &str) -> Vec<u64> {
 fn the_small_pack() {
     assert_eq!(block(&section("### 6.1")), SMALL_PACK);
     assert_eq!(file("packs/small.pack"), SMALL_PACK);
+}
+
+#[test]
+fn the_lines_of_form_2() {
+    let section = section("### 1.7");
+    let rows = table(&section, "| form 1 |");
+    assert_eq!(rows.len(), 6);
+    let texts = Form::ALL.map(|form| text_in(form, &Pack::new(&small_image())));
+    let [one, two] = texts.map(|text| String::from_utf8(text).unwrap());
+    let pairs: Vec<(&str, &str)> = one.lines().zip(two.lines()).collect();
+    for row in rows {
+        let pair = (row[0].as_str(), row[1].as_str());
+        assert!(pairs.contains(&pair), "{row:?}");
+    }
+    // The sizes of the packs in both forms, as the sentence has them.
+    let sizes = section[section.find("Of the packs in").unwrap()..].replace(',', "");
+    let names = ["small", "json", "profile"];
+    let shown = numbers(&sizes);
+    let given = names.map(|name| {
+        let text = file(&format!("packs/{name}.pack"));
+        let image = image_of(&text);
+        let two = text_in(Form::Two, &Pack::new(&image));
+        [text.len() as u64, two.len() as u64]
+    });
+    assert_eq!(shown, given.concat());
 }
 
 #[test]

@@ -26,7 +26,9 @@ fn with_line(number: usize, line: &str) -> (String, u32) {
 fn a_line_not_of_the_form_is_refused_at_its_start() {
     let wrong: &[(usize, &str)] = &[
         (0, "pack=0\n"),
-        (0, "pack=2\n"),
+        (0, "pack=3\n"),
+        (0, "pack=02\n"),
+        (0, "pack=12\n"),
         (0, "pack=01\n"),
         (0, "pack=1,1\n"),
         (0, "pack=\n"),
@@ -111,6 +113,9 @@ fn a_line_not_of_the_form_is_refused_at_its_start() {
         let (text, start) = with_line(number, line);
         assert_eq!(reads(text.as_bytes()), (1, start), "{line:?}");
     }
+    // The first line of form 2 is good, and then the first row of cells is not.
+    let (text, _) = with_line(0, "pack=2\n");
+    assert_eq!(reads(text.as_bytes()), (1, with_line(9, "").1));
 }
 
 #[test]

@@ -9,7 +9,9 @@ ghost use Rattle.scan.specs.Scan.{scanAlone};
 ghost use Rattle.parse.specs.Parse.{parse, treeAfter};
 ghost use Rattle.capi.specs.Numbers.{told, written, ofShape, ofScan, ofText, ofCheck, ofParse, ofPart, partOf};
 ghost use Rattle.numbers.specs.Front.{bufferAfter};
+ghost use Rattle.text.specs.declared.Form.the-variants.{One, Two};
 ghost use Rattle.text.specs.Reader.{read};
+ghost use Rattle.text.specs.Reform.{reform};
 ghost use Rattle.text.specs.Writer.{write};
 ghost use Rattle.print.specs.Print.{print};
 ghost use lib.ListN.{length};
@@ -123,15 +125,48 @@ pub extern "C" fn zhg_read(text: &[u8], buffer: &mut [u16], out: &mut [u64]) -> 
     put2(out, read.code as u64, read.number as u64)
 }
 
-// Writes an image as pack text: code and number; the text goes to the front of the buffer.
+// Writes an image as pack text of form 1: code and number; the text goes to the front of the buffer.
 #[no_mangle]
 pub extern "C" fn zhg_write(img: &[u16], buffer: &mut [u8], out: &mut [u64]) -> usize
-    ensures { λ r. ⌜ r ≡ told (now (out .entry)) (ofText (write (now (img .entry)) (now (buffer .entry)))) ⌝ }
-    ensures { λ r. ⌜ now (out .exit) ≡ written (now (out .entry)) (ofText (write (now (img .entry)) (now (buffer .entry)))) ⌝ }
-    ensures { λ r. ⌜ now (buffer .exit) ≡ bufferAfter (now (buffer .entry)) (write (now (img .entry)) (now (buffer .entry))) ⌝ }
+    ensures { λ r. ⌜ r ≡ told (now (out .entry)) (ofText (write One (now (img .entry)) (now (buffer .entry)))) ⌝ }
+    ensures { λ r. ⌜ now (out .exit) ≡ written (now (out .entry)) (ofText (write One (now (img .entry)) (now (buffer .entry)))) ⌝ }
+    ensures { λ r. ⌜ now (buffer .exit) ≡ bufferAfter (now (buffer .entry)) (write One (now (img .entry)) (now (buffer .entry))) ⌝ }
 {
     let wrote = writer::write(img, buffer);
     put2(out, wrote.code as u64, wrote.number as u64)
+}
+
+// Writes an image as pack text of form 2: code and number; the text goes to the front of the buffer.
+#[no_mangle]
+pub extern "C" fn zhg_write2(img: &[u16], buffer: &mut [u8], out: &mut [u64]) -> usize
+    ensures { λ r. ⌜ r ≡ told (now (out .entry)) (ofText (write Two (now (img .entry)) (now (buffer .entry)))) ⌝ }
+    ensures { λ r. ⌜ now (out .exit) ≡ written (now (out .entry)) (ofText (write Two (now (img .entry)) (now (buffer .entry)))) ⌝ }
+    ensures { λ r. ⌜ now (buffer .exit) ≡ bufferAfter (now (buffer .entry)) (write Two (now (img .entry)) (now (buffer .entry))) ⌝ }
+{
+    let wrote2 = writer::write2(img, buffer);
+    put2(out, wrote2.code as u64, wrote2.number as u64)
+}
+
+// Moves a pack text from form 1 to form 2: code and number; the text goes to the front of the buffer.
+#[no_mangle]
+pub extern "C" fn zhg_form2(text: &[u8], buffer: &mut [u8], out: &mut [u64]) -> usize
+    ensures { λ r. ⌜ r ≡ told (now (out .entry)) (ofText (reform One Two (now (text .entry)) (now (buffer .entry)))) ⌝ }
+    ensures { λ r. ⌜ now (out .exit) ≡ written (now (out .entry)) (ofText (reform One Two (now (text .entry)) (now (buffer .entry)))) ⌝ }
+    ensures { λ r. ⌜ now (buffer .exit) ≡ bufferAfter (now (buffer .entry)) (reform One Two (now (text .entry)) (now (buffer .entry))) ⌝ }
+{
+    let moved2 = moves::to_form2(text, buffer);
+    put2(out, moved2.code as u64, moved2.number as u64)
+}
+
+// Moves a pack text from form 2 to form 1: code and number; the text goes to the front of the buffer.
+#[no_mangle]
+pub extern "C" fn zhg_form1(text: &[u8], buffer: &mut [u8], out: &mut [u64]) -> usize
+    ensures { λ r. ⌜ r ≡ told (now (out .entry)) (ofText (reform Two One (now (text .entry)) (now (buffer .entry)))) ⌝ }
+    ensures { λ r. ⌜ now (out .exit) ≡ written (now (out .entry)) (ofText (reform Two One (now (text .entry)) (now (buffer .entry)))) ⌝ }
+    ensures { λ r. ⌜ now (buffer .exit) ≡ bufferAfter (now (buffer .entry)) (reform Two One (now (text .entry)) (now (buffer .entry))) ⌝ }
+{
+    let moved1 = moves::to_form1(text, buffer);
+    put2(out, moved1.code as u64, moved1.number as u64)
 }
 
 // The check of a pack: code, number and the two places.

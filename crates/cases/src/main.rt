@@ -142,6 +142,45 @@ fn write_with(img: &[u16], room: &mut [u8], n: usize) {
     write_into(img, &mut room[..k]);
 }
 
+fn write2_into(img: &[u16], room: &mut [u8]) {
+    pattern_of_bytes(room);
+    let a = writer::write2(img, room);
+    print(a.code as u64, b',');
+    print(a.number as u64, b',');
+    print(sum_of_bytes(room), b'\n');
+}
+
+fn write2_with(img: &[u16], room: &mut [u8], n: usize) {
+    let k = parts::least(n, room.len());
+    write2_into(img, &mut room[..k]);
+}
+
+fn form2_into(text: &[u8], room: &mut [u8]) {
+    pattern_of_bytes(room);
+    let a = moves::to_form2(text, room);
+    print(a.code as u64, b',');
+    print(a.number as u64, b',');
+    print(sum_of_bytes(room), b'\n');
+}
+
+fn form2_with(text: &[u8], room: &mut [u8], n: usize) {
+    let k = parts::least(n, room.len());
+    form2_into(text, &mut room[..k]);
+}
+
+fn form1_into(text: &[u8], room: &mut [u8]) {
+    pattern_of_bytes(room);
+    let a = moves::to_form1(text, room);
+    print(a.code as u64, b',');
+    print(a.number as u64, b',');
+    print(sum_of_bytes(room), b'\n');
+}
+
+fn form1_with(text: &[u8], room: &mut [u8], n: usize) {
+    let k = parts::least(n, room.len());
+    form1_into(text, &mut room[..k]);
+}
+
 fn print_into(tree: &[u16], text: &[u8], room: &mut [u8]) {
     pattern_of_bytes(room);
     let a = printer::print(text, tree, room);
@@ -163,6 +202,21 @@ fn read(text: &[u8], n: usize) {
 fn write(img: &[u16], n: usize) {
     let mut room = [0u8; 65600];
     write_with(img, &mut room, n);
+}
+
+fn write2(img: &[u16], n: usize) {
+    let mut room = [0u8; 65600];
+    write2_with(img, &mut room, n);
+}
+
+fn form2(text: &[u8], n: usize) {
+    let mut room = [0u8; 65600];
+    form2_with(text, &mut room, n);
+}
+
+fn form1(text: &[u8], n: usize) {
+    let mut room = [0u8; 65600];
+    form1_with(text, &mut room, n);
 }
 
 fn printout(tree: &[u16], text: &[u8], n: usize) {
@@ -257,6 +311,18 @@ fn answer(head: &[u8; 40], img: &[u16], text: &[u8]) {
     }
     if kind == 8 {
         printout(img, text, number(head, 3));
+        return;
+    }
+    if kind == 9 {
+        write2(img, number(head, 3));
+        return;
+    }
+    if kind == 10 {
+        form2(text, number(head, 3));
+        return;
+    }
+    if kind == 11 {
+        form1(text, number(head, 3));
         return;
     }
     io::write_all(STDOUT_FILENO, b"\n");

@@ -21,9 +21,12 @@ use Rattle.scan.specs.Scan.{scan}
 use Rattle.scan.specs.Matching.{Matches, Last}
 use Rattle.scan.proofs.Theory as Scan
 use Rattle.scan.proofs.Longest as Longest
-use Rattle.text.specs.Reader.{all, readAll, read}
+use Rattle.text.specs.declared.Form.{Form}
+use Rattle.text.specs.Reader.{all, readIn, formOf, readAll, read}
+use Rattle.text.specs.Reform.{reform}
 use Rattle.text.specs.Writer.{textOf, write}
 use Rattle.text.proofs.RoundTrip as Text
+use Rattle.text.proofs.Reform as Reform
 use Rattle.look.specs.declared.Spot.{Spot}
 use Rattle.look.specs.declared.Looked.{Looked}
 use Rattle.parse.specs.declared.Parsed.{Parsed}
@@ -56,25 +59,35 @@ use Rattle.promise.proofs.Passing as Passing
 pub largest : (img : List ℕ) → Sized img → needed img ≤ largestImage
 largest = Shape.largest-image
 
--- The text of an image of good shape is read back as that image, where text limit and room suffice.
-pub image-read : (img : List ℕ) → shape img ≡ Good → ((i : ℕ) → getD img i 0 < 65536) → (buffer : List ℕ) → length (textOf img) ≤ longestText → length img ≤ length buffer
-    → read (textOf img) buffer ≡ record { answer = record { code = done; number = length img }; written = img }
+-- Each of the two texts of an image of good shape is read back as that image, where text limit and room suffice.
+pub image-read : (img : List ℕ) → shape img ≡ Good → ((i : ℕ) → getD img i 0 < 65536) → (form : Form) (buffer : List ℕ) → length (textOf form img) ≤ longestText
+    → length img ≤ length buffer → read (textOf form img) buffer ≡ record { answer = record { code = done; number = length img }; written = img }
 image-read = Text.image-read
 
--- A text that was read is written back byte for byte, where there is room.
+-- A text that was read is written back byte for byte in its own form, where there is room.
 pub text-written : (text buffer out : List ℕ) → read text buffer .answer .code ≡ done → length text ≤ length out
-    → write (read text buffer .written) out ≡ record { answer = record { code = done; number = length text }; written = text }
+    → write (formOf text) (read text buffer .written) out ≡ record { answer = record { code = done; number = length text }; written = text }
 text-written = Text.text-written
 
--- What was read has good shape; no two texts have one image, and no text has two.
+-- What was read has good shape; no two texts of a form have one image, and no text has two.
 pub shape-read : (text buffer : List ℕ) → read text buffer .answer .code ≡ done → shape (read text buffer .written) ≡ Good
 shape-read = Text.shape-read
 
-pub one-text : (a b words : List ℕ) → readAll a ≡ all words [] → readAll b ≡ all words [] → a ≡ b
+pub one-text : (form : Form) (a b words : List ℕ) → readIn form a ≡ all words [] → readIn form b ≡ all words [] → a ≡ b
 one-text = Text.one-text
 
 pub one-image : (text a b : List ℕ) → readAll text ≡ all a [] → readAll text ≡ all b [] → a ≡ b
 one-image = Text.one-image
+
+-- Where both texts of an image fit the limit, a move from one comes to the other; and a text that was moved returns to its own bytes.
+pub image-moved : (from to : Form) (img buffer : List ℕ) → shape img ≡ Good → ((i : ℕ) → getD img i 0 < 65536) → length (textOf from img) ≤ longestText
+    → length (textOf to img) ≤ longestText → length (textOf to img) ≤ length buffer
+    → reform from to (textOf from img) buffer ≡ record { answer = record { code = done; number = length (textOf to img) }; written = textOf to img }
+image-moved = Reform.image-moves
+
+pub text-returns : (from to : Form) (text buffer out : List ℕ) → reform from to text buffer .answer .code ≡ done → length text ≤ length out
+    → reform to from (reform from to text buffer .written) out ≡ record { answer = record { code = done; number = length text }; written = text }
+text-returns = Reform.returns
 
 -- ---- the scan
 

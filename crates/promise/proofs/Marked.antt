@@ -19,10 +19,11 @@ use Rattle.conditions.specs.Conditions.{outranked, k1, within, k2, isGroup, set
 use Rattle.conditions.specs.Check.{number, firsts, seconds, test, inRow, inRows, find, report, firstFailing, checkAll, check}
 use Rattle.text.specs.Decimal.{isDigit, digitsFrom, numberIn, readNumber, decimalIn, decimal}
 use Rattle.text.specs.Fields.{hexDigit, hexFrom, readSet, readField, wordsOf, hexOf, hexWord, fieldText}
-use Rattle.text.specs.Form.{after, packLine, sizes, tablesOf, rowWidth}
-use Rattle.text.specs.Reader.{thenRead, expect, fieldThen, readFields, zeros, readSymbols, readRow, thenLines, asLine, readLines, readTables, limited, readHead, ended, readAll, Lines, all}
-use Rattle.text.specs.Writer.{fieldsText, rowText, linesText, tablesText, textOf}
-use Rattle.promise.specs.SmallPack.{small, small11, small12, small12too, joined, smallText}
+use Rattle.text.specs.declared.Form.the-variants.{One, Two}
+use Rattle.text.specs.Form.{after, before, columnText, cellsIn, packLine, sizes, tablesOf, rowWidth}
+use Rattle.text.specs.Reader.{thenRead, expect, fieldThen, readFields, readCode, readCell, readCells, zeros, readSymbols, readRow, thenLines, asLine, readLines, readTables, limited, readHead, ended, readIn, formOf, readAll, Lines, all}
+use Rattle.text.specs.Writer.{fieldsText, cellsText, rowText, linesText, tablesText, textOf}
+use Rattle.promise.specs.SmallPack.{small, small11, small12, small12too, joined, smallText, smallText2}
 use Rattle.promise.specs.Marked.{cases, same, ofParse, ofCheck, right, allRight}
 
 -- Every marked case, variant and check.
@@ -35,11 +36,19 @@ pub words : length small ≡ 189
 unfolding small
 words = refl
 
--- The writer's text of the image is the pack's text, and reading it gives the image.
-pub written : textOf small ≡ smallText
-unfolding isDigit digitsFrom numberIn readNumber hexDigit hexFrom readSet readField wordsOf decimalIn decimal hexOf hexWord fieldText after packLine sizes tablesOf rowWidth fieldsText rowText linesText tablesText textOf small joined smallText
+-- The writer's text of the image is the pack's text, and reading it gives the image, in either form.
+pub written : textOf One small ≡ smallText
+unfolding isDigit digitsFrom numberIn readNumber hexDigit hexFrom readSet readField wordsOf decimalIn decimal hexOf hexWord fieldText after packLine sizes tablesOf cellsIn rowWidth fieldsText rowText linesText tablesText textOf small joined smallText
 written = refl
 
 pub read-back : readAll smallText ≡ all small []
-unfolding setAt leastSize greatestSize rule each sizeRule isDigit digitsFrom numberIn readNumber hexDigit hexFrom readSet readField wordsOf decimalIn decimal hexOf hexWord fieldText after packLine sizes tablesOf rowWidth thenRead expect fieldThen readFields zeros readSymbols readRow thenLines asLine readLines readTables limited readHead ended readAll small joined smallText
+unfolding setAt leastSize greatestSize rule each sizeRule isDigit digitsFrom numberIn readNumber hexDigit hexFrom readSet readField wordsOf decimalIn decimal hexOf hexWord fieldText after packLine sizes tablesOf cellsIn rowWidth thenRead expect fieldThen readFields zeros readSymbols readRow thenLines asLine readLines readTables limited readHead ended readIn formOf readAll small joined smallText
 read-back = refl
+
+pub written2 : textOf Two small ≡ smallText2
+unfolding isDigit digitsFrom numberIn readNumber hexDigit hexFrom readSet readField wordsOf decimalIn decimal hexOf hexWord fieldText after packLine sizes tablesOf before columnText cellsIn rowWidth fieldsText cellsText rowText linesText tablesText textOf small joined smallText2
+written2 = refl
+
+pub read-back2 : readAll smallText2 ≡ all small []
+unfolding setAt leastSize greatestSize rule each sizeRule isDigit digitsFrom numberIn readNumber hexDigit hexFrom readSet readField wordsOf decimalIn decimal hexOf hexWord fieldText after packLine sizes tablesOf before columnText cellsIn rowWidth thenRead expect fieldThen readFields readCode readCell readCells zeros readSymbols readRow thenLines asLine readLines readTables limited readHead ended readIn formOf readAll small joined smallText2
+read-back2 = refl

@@ -11,7 +11,9 @@ use Rattle.conditions.specs.declared.Checked.{Checked}
 use Rattle.conditions.specs.Check.{check}
 use Rattle.scan.specs.declared.Scanned.{Scanned}
 use Rattle.scan.specs.Scan.{scanAlone}
+use Rattle.text.specs.declared.Form.{Form}
 use Rattle.text.specs.Reader.{read}
+use Rattle.text.specs.Reform.{reform}
 use Rattle.text.specs.Writer.{write}
 use Rattle.parse.specs.declared.Parsed.{Parsed}
 use Rattle.parse.specs.Parse.{parse, treeAfter}
@@ -38,9 +40,14 @@ module _ (img text : List ℕ) where
       → (s ≡ read text buffer .answer) × (n ≡ bufferAfter buffer (read text buffer)) → (r ≡ s) × (m ≡ n)
   one-reading buffer = unique-lent
 
-  pub one-writing : (buffer : List ℕ) {r s : Answer} {m n : List ℕ} → (r ≡ write img buffer .answer) × (m ≡ bufferAfter buffer (write img buffer))
-      → (s ≡ write img buffer .answer) × (n ≡ bufferAfter buffer (write img buffer)) → (r ≡ s) × (m ≡ n)
-  one-writing buffer = unique-lent
+  pub one-writing : (form : Form) (buffer : List ℕ) {r s : Answer} {m n : List ℕ} → (r ≡ write form img buffer .answer) × (m ≡ bufferAfter buffer (write form img buffer))
+      → (s ≡ write form img buffer .answer) × (n ≡ bufferAfter buffer (write form img buffer)) → (r ≡ s) × (m ≡ n)
+  one-writing form buffer = unique-lent
+
+  pub one-move : (from to : Form) (buffer : List ℕ) {r s : Answer} {m n : List ℕ}
+      → (r ≡ reform from to text buffer .answer) × (m ≡ bufferAfter buffer (reform from to text buffer))
+      → (s ≡ reform from to text buffer .answer) × (n ≡ bufferAfter buffer (reform from to text buffer)) → (r ≡ s) × (m ≡ n)
+  one-move from to buffer = unique-lent
 
   pub one-parse : (tree : List ℕ) (allowance : ℕ) {r s : Parsed} {m n : List ℕ}
       → (r ≡ parse img text tree allowance .parsed) × (m ≡ treeAfter tree (parse img text tree allowance))

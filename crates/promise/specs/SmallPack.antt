@@ -90,6 +90,46 @@ smallText =
     bytes "scan=0000000000000004,0000000000000000,0000000000000004\n" ∷
     bytes "scan=0000000000000008,0000000000000000,0000000000000008\n" ∷ [])
 
+-- The same in form 2.
+unfoldable pub smallText2 : List ℕ
+smallText2 =
+    joined
+    (bytes "pack=2\n" ∷
+    bytes "size=4,1,2,5,5,5,6,0\n" ∷
+    bytes "layout=0000000000000008\n" ∷
+    bytes "dom=0000000000000000\n" ∷
+    bytes "dom=0000000000000000\n" ∷
+    bytes "dom=0000000000000002\n" ∷
+    bytes "dom=0000000000000000\n" ∷
+    bytes "prod=0,1,2\n" ∷
+    bytes "prod=0,3,2,1,2\n" ∷
+    bytes "act=2:4\n" ∷
+    bytes "act=0:3,1:6\n" ∷
+    bytes "act=2:8\n" ∷
+    bytes "act=0:5\n" ∷
+    bytes "act=0:1\n" ∷
+    bytes "goto=0:5\n" ∷
+    bytes "goto=\n" ∷
+    bytes "goto=\n" ∷
+    bytes "goto=\n" ∷
+    bytes "goto=\n" ∷
+    bytes "class=32,32,4\n" ∷
+    bytes "class=97,97,3\n" ∷
+    bytes "class=98,98,1\n" ∷
+    bytes "class=99,120,3\n" ∷
+    bytes "class=121,121,2\n" ∷
+    bytes "class=122,122,3\n" ∷
+    bytes "move=1:2,2:4,3:4,4:5\n" ∷
+    bytes "move=1:4,2:3,3:4\n" ∷
+    bytes "move=1:4,2:4,3:4\n" ∷
+    bytes "move=1:4,2:4,3:4\n" ∷
+    bytes "move=4:5\n" ∷
+    bytes "scan=0000000000000000,0000000000000000,000000000000000e\n" ∷
+    bytes "scan=0000000000000004,0000000000000000,0000000000000006\n" ∷
+    bytes "scan=0000000000000002,0000000000000004,0000000000000006\n" ∷
+    bytes "scan=0000000000000004,0000000000000000,0000000000000004\n" ∷
+    bytes "scan=0000000000000008,0000000000000000,0000000000000008\n" ∷ [])
+
 -- Case 11: "First goto row 0".
 unfoldable pub small11 : List ℕ
 small11 = set small (gotoAt small 0 0) 0

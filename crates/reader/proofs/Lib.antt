@@ -1,3 +1,4 @@
+pub mod CellLaws
 pub mod FieldLaws
 pub mod LineLaws
 pub mod TableLaws

@@ -18,8 +18,10 @@ use Rattle.numbers.specs.declared.Verdict.the-variants.{Good, Wrong}
 use Rattle.numbers.specs.Verdicts.{isWrong}
 use Rattle.shape.specs.Shape.{each, sizeRule, shape}
 use Rattle.shape.proofs.Laws.{is-good, is-wrong, sizes-sized}
+use Rattle.text.specs.declared.Form.{Form}
+use Rattle.text.specs.declared.Form.the-variants.{One, Two}
 use Rattle.text.specs.Form.{packLine, sizes, tablesOf, tableAt, tableWords}
-use Rattle.text.specs.Reader.{Line, Lines, thenRead, expect, readRow, thenLines, asLine, readLines, readTables, limited, readHead, ended, readAll, judge, read}
+use Rattle.text.specs.Reader.{Line, Lines, thenRead, expect, readRow, thenLines, asLine, readLines, readTables, limited, readHead, ended, readIn, formOf, readAll, judge, read}
 use Rattle.text.specs.Reader.Line.{wrong, took}
 use Rattle.text.specs.Reader.Lines.{wrongFrom, all}
 use Rattle.text.proofs.Lines.{lines-lines, lines-all}
@@ -29,22 +31,32 @@ use Rattle.reader.specs.Steps.{Placed, linesOf, ReadsLines}
 use Rattle.reader.proofs.LineLaws.{took-is, wrong-is, lines-go}
 
 -- ---- the first two lines
-module _ (text : List ℕ) (start : ℕ) (b : Placed (expect packLine (1 ∷ []) text) text (1 ∷ []) start) where
-  pub head-wrong : (img : List ℕ) → length text < start → ReadsLines (readHead text) text img 9 (record { ok = false; at = 0; words = 1 })
+-- The first line tells the form.
+module _ (text : List ℕ) (p : ℕ) (b : Placed (expect (packLine Two) [] text) text [] p) where
+  pub form-one : length text < p → One ≡ formOf text
+  unfolding formOf
+  form-one h = let z : wrong ≡ expect (packLine Two) [] text = wrong-is _ _ _ _ b h in simp (formOf, ← z)
+
+  pub form-two : p ≤ length text → Two ≡ formOf text
+  unfolding formOf
+  form-two h = let z : took [] (drop p text) ≡ expect (packLine Two) [] text = took-is _ _ _ _ b h in simp (formOf, ← z)
+
+module _ (form : Form) (text : List ℕ) (start : ℕ) (b : Placed (expect (packLine form) (1 ∷ []) text) text (1 ∷ []) start) where
+  pub head-wrong : (img : List ℕ) → length text < start → ReadsLines (readHead form text) text img 9 (record { ok = false; at = 0; words = 1 })
   unfolding readHead thenLines asLine linesOf
   head-wrong img h =
-      let z : wrong ≡ expect packLine (1 ∷ []) text = wrong-is _ _ _ _ b h in
+      let z : wrong ≡ expect (packLine form) (1 ∷ []) text = wrong-is _ _ _ _ b h in
       record { means = simp (readHead, ← z); inside = omega arith; fits = omega arith }
 
   module _ (h : start ≤ length text) (img : List ℕ) (p : ℕ)
       (q : Placed (thenRead (expect (sizes .name) (1 ∷ []) (drop start text)) (readRow (sizes .row))) text (take 9 img) p) where
-    head-went : readHead text ≡ asLine (drop start text) (thenRead (thenRead (expect (sizes .name) (1 ∷ []) (drop start text)) (readRow (sizes .row))) limited)
+    head-went : readHead form text ≡ asLine (drop start text) (thenRead (thenRead (expect (sizes .name) (1 ∷ []) (drop start text)) (readRow (sizes .row))) limited)
     unfolding readHead thenLines asLine
     head-went =
-        let z : took (1 ∷ []) (drop start text) ≡ expect packLine (1 ∷ []) text = took-is _ _ _ _ b h in
+        let z : took (1 ∷ []) (drop start text) ≡ expect (packLine form) (1 ∷ []) text = took-is _ _ _ _ b h in
         simp (readHead, ← z)
 
-    pub size-wrong : length text < p → ReadsLines (readHead text) text img 9 (record { ok = false; at = start; words = 1 })
+    pub size-wrong : length text < p → ReadsLines (readHead form text) text img 9 (record { ok = false; at = start; words = 1 })
     unfolding thenRead asLine linesOf
     size-wrong l = record { means = sym (head-went ∙ rw (← wrong-is _ _ _ _ q l)); inside = h; fits = omega arith }
 
@@ -52,13 +64,13 @@ module _ (text : List ℕ) (start : ℕ) (b : Placed (expect packLine (1 ∷ [])
       limits : v ≡ each (sizeRule (take 9 img)) 8 1
       limits = rw (take-all 9 img (omega arith)) s
 
-      pub limits-broken : isWrong v ≡ true → ReadsLines (readHead text) text img 9 (record { ok = false; at = start; words = 1 })
+      pub limits-broken : isWrong v ≡ true → ReadsLines (readHead form text) text img 9 (record { ok = false; at = start; words = 1 })
       unfolding thenRead asLine limited linesOf
       limits-broken g =
           let x = is-wrong v g in
           record { means = sym (head-went ∙ rw (← took-is _ _ _ _ q l) (simp (limited, sym limits ∙ x .1))); inside = h; fits = omega arith }
 
-      pub limits-kept : isWrong v ≡ false → ReadsLines (readHead text) text img 9 (record { ok = true; at = p; words = 9 })
+      pub limits-kept : isWrong v ≡ false → ReadsLines (readHead form text) text img 9 (record { ok = true; at = p; words = 9 })
       unfolding thenRead asLine limited linesOf
       limits-kept g =
           record { means = sym (head-went ∙ rw (← took-is _ _ _ _ q l) (simp (limited, sym limits ∙ is-good v g))); inside = l; fits = omega arith }
@@ -80,9 +92,9 @@ unfolding asLine thenRead
 line-limits wrong b w rest e = let y : _≡_ {A = ℕ} 0 1 = cc in absurd (omega arith)
 line-limits (took u v) b w rest e = limited-limits u v w rest b e
 
-pub head-limits : (text w rest : List ℕ) → readHead text ≡ all w rest → each (sizeRule w) 8 1 ≡ Good
+pub head-limits : (form : Form) (text w rest : List ℕ) → readHead form text ≡ all w rest → each (sizeRule w) 8 1 ≡ Good
 unfolding readHead thenLines asLine
-head-limits text w rest e = go (expect packLine (1 ∷ []) text) e
+head-limits form text w rest e = go (expect (packLine form) (1 ∷ []) text) e
   where
     go : (x : Line) → thenLines (asLine text x) (λ w rest. asLine rest (thenRead (thenRead (expect (sizes .name) w rest) (readRow (sizes .row))) limited)) ≡ all w rest
         → each (sizeRule w) 8 1 ≡ Good
@@ -108,33 +120,33 @@ module _ (text img : List ℕ) (c : Cursor) (i : c .at ≤ length text) (e : c .
   }
 
 -- ---- tables
-module _ (head : List ℕ) (i : ℕ) (l : Lines) where
-  pub table-on : (l′ : Lines) → i < 9 → l′ ≡ thenLines l (readLines (tableAt head i .name) (tableAt head i .row) (tableAt head i .lines))
-      → thenLines l (readTables (tablesFrom head i)) ≡ thenLines l′ (readTables (tablesFrom head (i + 1)))
+module _ (form : Form) (head : List ℕ) (i : ℕ) (l : Lines) where
+  pub table-on : (l′ : Lines) → i < 9 → l′ ≡ thenLines l (readLines (tableAt form head i .name) (tableAt form head i .row) (tableAt form head i .lines))
+      → thenLines l (readTables (tablesFrom form head i)) ≡ thenLines l′ (readTables (tablesFrom form head (i + 1)))
   unfolding readTables
   table-on l′ h e =
-      let t = tableAt head i in
-      rw (tables-on head i h, e) (sym (lines-lines l (readLines (t .name) (t .row) (t .lines)) (readTables (tablesFrom head (i + 1)))))
+      let t = tableAt form head i in
+      rw (tables-on form head i h, e) (sym (lines-lines l (readLines (t .name) (t .row) (t .lines)) (readTables (tablesFrom form head (i + 1)))))
 
-  pub tables-done : 9 ≤ i → l ≡ thenLines l (readTables (tablesFrom head i))
+  pub tables-done : 9 ≤ i → l ≡ thenLines l (readTables (tablesFrom form head i))
   unfolding readTables
-  tables-done h = rw (tables-end head i h) (sym (lines-all l))
+  tables-done h = rw (tables-end form head i h) (sym (lines-all l))
 
 -- ---- the whole: the head is read into a row of nine words, which becomes the front of the image
-module _ (text head : List ℕ) (c : Cursor) (nine : length head ≡ 9) (h : ReadsLines (readHead text) text head 9 c) where
-  pub all-wrong : (img : List ℕ) → c .ok ≡ false → ReadsLines (readAll text) text img largestImage c
-  unfolding readAll linesOf thenLines
+module _ (form : Form) (text head : List ℕ) (c : Cursor) (nine : length head ≡ 9) (h : ReadsLines (readHead form text) text head 9 c) where
+  pub all-wrong : (img : List ℕ) → c .ok ≡ false → ReadsLines (readIn form text) text img largestImage c
+  unfolding readIn linesOf thenLines
   all-wrong img e =
-      let z : wrongFrom (drop (c .at) text) ≡ readHead text = simp (linesOf, e) at (h .means) in
-      record { means = simp (readAll, linesOf, thenLines, e, ← z); inside = h .inside; fits = omega (arith, h .fits) }
+      let z : wrongFrom (drop (c .at) text) ≡ readHead form text = simp (linesOf, e) at (h .means) in
+      record { means = simp (readIn, linesOf, thenLines, e, ← z); inside = h .inside; fits = omega (arith, h .fits) }
 
   module _ (e : c .ok ≡ true) where
-    went : all (take (c .words) head) (drop (c .at) text) ≡ readHead text
+    went : all (take (c .words) head) (drop (c .at) text) ≡ readHead form text
     unfolding linesOf
     went = simp (linesOf, e) at (h .means)
 
     front-sized : Sized (take (c .words) head)
-    front-sized = sizes-sized _ (head-limits text _ _ (sym went))
+    front-sized = sizes-sized _ (head-limits form text _ _ (sym went))
 
     all-nine : c .words ≡ 9
     all-nine = omega (arith, h .fits, front-sized .there, length-take (c .words) head)
@@ -145,11 +157,11 @@ module _ (text head : List ℕ) (c : Cursor) (nine : length head ≡ 9) (h : Rea
     pub head-sized : Sized head
     head-sized = rw front-is at front-sized
 
-    pub head-room : c .words + tableWords (tablesOf head) ≤ largestImage
-    head-room = omega (arith, all-nine, tables-fit head head-sized)
+    pub head-room : c .words + tableWords (tablesOf form head) ≤ largestImage
+    head-room = omega (arith, all-nine, tables-fit form head head-sized)
 
-    pub head-needed : c .words + tableWords (tablesOf head) ≡ needed head
-    head-needed = omega (arith, all-nine, tables-needed head)
+    pub head-needed : c .words + tableWords (tablesOf form head) ≡ needed head
+    head-needed = omega (arith, all-nine, tables-needed form head)
 
     pub needed-most : needed head ≤ largestImage
     needed-most = omega (arith, head-room, head-needed)
@@ -161,13 +173,13 @@ module _ (text head : List ℕ) (c : Cursor) (nine : length head ≡ 9) (h : Rea
         rw (z, all-nine) (take-at head (drop (length head) img) 9 nine)
 
     pub all-done : (img img′ img″ : List ℕ) (a : Answer) (d r : Cursor) → needed head ≤ length img → Delivers (deliver head (length img)) img img′ a
-        → ReadsLines (thenLines (linesOf text img′ c) (readTables (tablesOf head))) text img″ (c .words + tableWords (tablesOf head)) d
-        → ReadsLines (thenLines (linesOf text img″ d) ended) text img″ (d .words) r → ReadsLines (readAll text) text img″ (needed head) r
-    unfolding readAll thenLines
+        → ReadsLines (thenLines (linesOf text img′ c) (readTables (tablesOf form head))) text img″ (c .words + tableWords (tablesOf form head)) d
+        → ReadsLines (thenLines (linesOf text img″ d) ended) text img″ (d .words) r → ReadsLines (readIn form text) text img″ (needed head) r
+    unfolding readIn thenLines
     all-done img img′ img″ a d r l o p q =
-        let y : all head (drop (c .at) text) ≡ readHead text = rw front-is at went in
-        let z : linesOf text img″ d ≡ thenLines (readHead text) (λ w rest. readTables (tablesOf w) w rest) =
-        p .means ∙ lines-go text img′ c (readTables (tablesOf head)) e ∙ rw (head-there img img′ a (omega (arith, l, all-nine, head-needed)) o, ← y) in record {
+        let y : all head (drop (c .at) text) ≡ readHead form text = rw front-is at went in
+        let z : linesOf text img″ d ≡ thenLines (readHead form text) (λ w rest. readTables (tablesOf form w) w rest) =
+        p .means ∙ lines-go text img′ c (readTables (tablesOf form head)) e ∙ rw (head-there img img′ a (omega (arith, l, all-nine, head-needed)) o, ← y) in record {
           means = q .means ∙ ap (λ (x : Lines). thenLines x ended) z;
           inside = q .inside;
           fits = omega (arith, q .fits, p .fits, head-needed);
@@ -175,28 +187,28 @@ module _ (text head : List ℕ) (c : Cursor) (nine : length head ≡ 9) (h : Rea
 
 -- ---- words that were read
 module _ (words b : List ℕ) (room : ℕ) where
-  pub judge-wrong : (place : ℕ) → shape words ≡ Wrong place → Delivers (judge 0 room (all words [])) b b (answer wrongShape place)
+  pub judge-wrong : (place : ℕ) → shape words ≡ Wrong place → Delivers (judge 0 (λ w. deliver w room) (all words [])) b b (answer wrongShape place)
   unfolding judge
   judge-wrong place e = record { given = simp (judge, e); left = simp (judge, e) }
 
-  pub judge-good : (b′ : List ℕ) (r : Answer) → shape words ≡ Good → Delivers (deliver words room) b b′ r → Delivers (judge 0 room (all words [])) b b′ r
+  pub judge-good : (b′ : List ℕ) (r : Answer) → shape words ≡ Good → Delivers (deliver words room) b b′ r → Delivers (judge 0 (λ w. deliver w room) (all words [])) b b′ r
   unfolding judge
   judge-good b′ r e q = simp (judge, e) q
 
 -- ---- a text whose head is right
-module _ (text b img : List ℕ) (room most : ℕ) (c : Cursor) (p : ReadsLines (readAll text) text img most c) where
-  pub by-wrong : c .ok ≡ false → Delivers (judge (length text) room (readAll text)) b b (answer notTheForm (c .at))
+module _ (lines : Lines) (text b img : List ℕ) (room most : ℕ) (c : Cursor) (p : ReadsLines lines text img most c) where
+  pub by-wrong : c .ok ≡ false → Delivers (judge (length text) (λ w. deliver w room) lines) b b (answer notTheForm (c .at))
   unfolding linesOf judge
   by-wrong e =
-      let z : wrongFrom (drop (c .at) text) ≡ readAll text = simp (linesOf, e) at (p .means) in
+      let z : wrongFrom (drop (c .at) text) ≡ lines = simp (linesOf, e) at (p .means) in
       let y : length text - length (drop (c .at) text) ≡ c .at = rw (length-drop (c .at) text) (omega (arith, p .inside)) in
       record { given = simp (← z, judge, y); left = simp (← z, judge) }
 
-  pub by-done : (b′ : List ℕ) (r : Answer) → c .ok ≡ true → Delivers (judge 0 room (all (take (c .words) img) [])) b b′ r
-      → Delivers (judge (length text) room (readAll text)) b b′ r
+  pub by-done : (b′ : List ℕ) (r : Answer) → c .ok ≡ true → Delivers (judge 0 (λ w. deliver w room) (all (take (c .words) img) [])) b b′ r
+      → Delivers (judge (length text) (λ w. deliver w room) lines) b b′ r
   unfolding linesOf judge
   by-done b′ r e q =
-      let z : all (take (c .words) img) (drop (c .at) text) ≡ readAll text = simp (linesOf, e) at (p .means) in
+      let z : all (take (c .words) img) (drop (c .at) text) ≡ lines = simp (linesOf, e) at (p .means) in
       rw (← z) q
 
 -- ---- the reader
@@ -205,7 +217,8 @@ module _ (text b : List ℕ) where
   unfolding read
   read-long h = (simp (read, lt-ltb _ _ h), simp (read, lt-ltb _ _ h))
 
-  pub read-is : (b′ : List ℕ) (r : Answer) → length text ≤ longestText → Delivers (judge (length text) (length b) (readAll text)) b b′ r
+  pub read-is : (form : Form) (b′ : List ℕ) (r : Answer) → form ≡ formOf text → length text ≤ longestText
+      → Delivers (judge (length text) (λ w. deliver w (length b)) (readIn form text)) b b′ r
       → (r ≡ read text b .answer) × (b′ ≡ bufferAfter b (read text b))
-  unfolding read
-  read-is b′ r h q = (simp (read, le-ltb _ _ h) (q .given), simp (read, le-ltb _ _ h) (q .left))
+  unfolding read readAll
+  read-is form b′ r e h q = (simp (read, readAll, le-ltb _ _ h, ← e) (q .given), simp (read, readAll, le-ltb _ _ h, ← e) (q .left))

@@ -2,15 +2,16 @@
 use crate::lines::Cursor;
 use numbers::Answer;
 use numbers::Verdict;
+use text::Form;
 ghost use mathlib.Core.Path.{_≡_};
 ghost use mathlib.Core.Bool.{true};
 ghost use mathlib.Core.List.{[]};
 ghost use Prim.Native.Nat.{_≤_};
 ghost use lib.ListN.{length};
-ghost use Rattle.numbers.specs.Front.{Delivers, bufferAfter};
+ghost use Rattle.numbers.specs.Front.{deliver, Delivers, bufferAfter};
 ghost use Rattle.pack.specs.Image.{needed};
 ghost use Rattle.reader.specs.Steps.{ReadsLines};
-ghost use Rattle.text.specs.Reader.{readHead, readAll, judge, read};
+ghost use Rattle.text.specs.Reader.{readHead, readIn, formOf, judge, read};
 ghost use Rattle.text.specs.Reader.Lines.{all};
 
 mod fields; // fields.rt: numbers and sets
@@ -24,7 +25,7 @@ const MIDDLE_IMAGE: usize = 4096;
 
 // Words that were read: they must have good shape, and there must be room.
 fn judge(img: &[u16], buffer: &mut [u16]) -> Answer
-    ensures { λ r. ⌜ Delivers (judge 0 (length (now (buffer .entry))) (all (now (img .entry)) [])) (now (buffer .entry)) (now (buffer .exit)) r ⌝ }
+    ensures { λ r. ⌜ Delivers (judge 0 (λ w. deliver w (length (now (buffer .entry)))) (all (now (img .entry)) [])) (now (buffer .entry)) (now (buffer .exit)) r ⌝ }
 {
     let verdict = shape::shape(img);
     match verdict {
@@ -37,11 +38,18 @@ fn judge(img: &[u16], buffer: &mut [u16]) -> Answer
 }
 
 // A text whose head is right, read by way of a scratch image that has room for its words.
-fn read_by(text: &[u8], head: &[u16], c: Cursor, img: &mut [u16], buffer: &mut [u16]) -> Answer
-    requires { ⌜ (length (now head) ≡ 9) × ((ReadsLines (readHead (now text)) (now text) (now head) 9 c) × ((c .ok ≡ true) × (needed (now head) ≤ length (now img)))) ⌝ }
-    ensures { λ r. ⌜ Delivers (judge (length (now (text .entry))) (length (now (buffer .entry))) (readAll (now (text .entry)))) (now (buffer .entry)) (now (buffer .exit)) r ⌝ }
+fn read_by(
+    text: &[u8],
+    form: Form,
+    head: &[u16],
+    c: Cursor,
+    img: &mut [u16],
+    buffer: &mut [u16],
+) -> Answer
+    requires { ⌜ (length (now head) ≡ 9) × ((ReadsLines (readHead form (now text)) (now text) (now head) 9 c) × ((c .ok ≡ true) × (needed (now head) ≤ length (now img)))) ⌝ }
+    ensures { λ r. ⌜ Delivers (judge (length (now (text .entry))) (λ w. deliver w (length (now (buffer .entry)))) (readIn form (now (text .entry)))) (now (buffer .entry)) (now (buffer .exit)) r ⌝ }
 {
-    let d = tables::read_all(text, head, img, c);
+    let d = tables::read_all(text, form, head, img, c);
     let ok = d.ok;
     let at = d.at;
     let words = d.words;
@@ -54,7 +62,17 @@ fn read_by(text: &[u8], head: &[u16], c: Cursor, img: &mut [u16], buffer: &mut [
     judge(&img[..words], buffer)
 }
 
-// Reads a pack text. Codes 2, 1, 4 and 3 leave the buffer untouched; done puts the words of the image at its front.
+// The form of a text: its first line tells it. Where it is that of neither, form 1 finds it wrong.
+pub fn form_of(text: &[u8]) -> Form
+    ensures { λ r. ⌜ r ≡ formOf (now (text .entry)) ⌝ }
+{
+    if text.len() < tables::first_line(text, Form::Two) {
+        return Form::One;
+    }
+    Form::Two
+}
+
+// Reads a pack text of either form. Codes 2, 1, 4 and 3 leave the buffer untouched; done puts the words of the image at its front.
 pub fn read(text: &[u8], buffer: &mut [u16]) -> Answer
     ensures { λ r. ⌜ r ≡ read (now (text .entry)) (now (buffer .entry)) .answer ⌝ }
     ensures { λ r. ⌜ now (buffer .exit) ≡ bufferAfter (now (buffer .entry)) (read (now (text .entry)) (now (buffer .entry))) ⌝ }
@@ -66,7 +84,8 @@ pub fn read(text: &[u8], buffer: &mut [u16]) -> Answer
         };
     }
     let mut head = [0u16; pack::image::HEAD_WORDS];
-    let c = tables::read_head(text, &mut head);
+    let form = form_of(text);
+    let c = tables::read_head(text, form, &mut head);
     let ok = c.ok;
     let at = c.at;
     if !ok {
@@ -78,12 +97,12 @@ pub fn read(text: &[u8], buffer: &mut [u16]) -> Answer
     let size = pack::image::needed(&head);
     if size <= SMALL_IMAGE {
         let mut img = [0u16; SMALL_IMAGE];
-        return read_by(text, &head, c, &mut img, buffer);
+        return read_by(text, form, &head, c, &mut img, buffer);
     }
     if size <= MIDDLE_IMAGE {
         let mut img = [0u16; MIDDLE_IMAGE];
-        return read_by(text, &head, c, &mut img, buffer);
+        return read_by(text, form, &head, c, &mut img, buffer);
     }
     let mut img = [0u16; pack::image::LARGEST_IMAGE];
-    read_by(text, &head, c, &mut img, buffer)
+    read_by(text, form, &head, c, &mut img, buffer)
 }

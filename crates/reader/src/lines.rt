@@ -5,26 +5,35 @@ use crate::fields::read_number;
 use crate::fields::read_set;
 use crate::fields::stands;
 use pack::image::SET_WORDS;
+use text::COLON;
 use text::COMMA;
 use text::Kind;
 use text::NEWLINE;
 use text::Row;
 ghost use mathlib.Core.Path.{_≡_};
+ghost use mathlib.Core.Bool.{Bool, true};
 ghost use mathlib.Core.List.{List, [], _∷_, _++_};
 ghost use Prim.Native.Nat.{ℕ, _+_, _*_, _-_, _<_, _≤_};
 ghost use lib.ListN.{length, take, drop};
 ghost use Rattle.pack.specs.Image.{groupWords, largestImage, mostSymbols, productionWords, setWords};
 ghost use Rattle.text.specs.Fields.{wordsOf};
-ghost use Rattle.text.specs.Form.{newline, rowWidth};
-ghost use Rattle.text.specs.Reader.Line.{took};
-ghost use Rattle.text.specs.Reader.{thenRead, expect, readFields, zeros, readSymbols, readRow, thenLines, readLines};
-ghost use Rattle.reader.specs.Steps.{Placed, linesOf, ReadsLines};
+ghost use Rattle.text.specs.Form.{newline, before, rowWidth};
+ghost use Rattle.text.specs.Reader.Line.{wrong, took};
+ghost use Rattle.text.specs.Reader.{thenRead, expect, readFields, readCells, zeros, readSymbols, readRow, thenLines, readLines};
+ghost use Rattle.reader.specs.Steps.{Placed, NextCell, linesOf, ReadsLines};
 
 // How far the reader is between two lines: whether all was right so far, the place in the text, and the words of the image so far.
 pub struct Cursor {
     pub ok: bool,
     pub at: usize,
     pub words: usize,
+}
+
+// A cell of form 2, and the place behind it, which lies behind the text where none is right.
+pub struct Cell {
+    pub column: usize,
+    pub code: u16,
+    pub at: usize,
 }
 
 // The most symbols of a production, as the number that is read.
@@ -128,6 +137,100 @@ fn pad(img: &mut [u16], words: usize, n: usize)
     }
 }
 
+// No cell.
+fn no_cell(text: &[u8]) -> Cell
+    ensures { λ r. ⌜ r .at ≡ length (now (text .entry)) + 1 ⌝ }
+{
+    Cell {
+        column: 0,
+        code: 0,
+        at: text.len() + 1,
+    }
+}
+
+// A cell in a row of n: its column, which is `least` or a later one, a colon, and its code.
+fn cell_at(text: &[u8], at: usize, least: usize, n: usize) -> Cell
+    requires { ⌜ (at ≤ length (now text)) × ((least ≤ n) × (n ≤ largestImage)) ⌝ }
+    ensures { λ r. ⌜ ((first : Bool) (bytes : List ℕ) → bytes ≡ before first ++ drop at (now (text .entry)) → ((w : List ℕ) → expect (newline ∷ []) w bytes ≡ wrong) → NextCell first bytes (now (text .entry)) least n r) ⌝ }
+{
+    let f = read_number(text, at, text::GREATEST_WORD);
+    let used = f.used;
+    if used == 0 {
+        return no_cell(text);
+    }
+    let column = f.value as usize;
+    if column < least {
+        return no_cell(text); // columns rise
+    }
+    if n <= column {
+        return no_cell(text); // and lie inside the row
+    }
+    if !stands(text, at + used, COLON) {
+        return no_cell(text);
+    }
+    let g = read_number(text, at + used + 1, text::GREATEST_WORD);
+    let digits = g.used;
+    let code = g.value as u16;
+    if 0 < code {
+        return Cell {
+            column,
+            code,
+            at: at + used + 1 + digits,
+        };
+    }
+    no_cell(text)
+}
+
+// The cell that stands next, behind a comma if it is not the first.
+fn next_cell(text: &[u8], at: usize, first: bool, least: usize, n: usize) -> Cell
+    requires { ⌜ (at ≤ length (now text)) × ((least ≤ n) × (n ≤ largestImage)) ⌝ }
+    requires { ⌜ ((w : List ℕ) → expect (newline ∷ []) w (drop at (now text)) ≡ wrong) ⌝ }
+    ensures { λ r. ⌜ NextCell first (drop at (now (text .entry))) (now (text .entry)) least n r ⌝ }
+{
+    if first {
+        return cell_at(text, at, least, n);
+    }
+    if !stands(text, at, COMMA) {
+        return no_cell(text);
+    }
+    cell_at(text, at + 1, least, n)
+}
+
+// A code behind so many words 0.
+fn put_code(img: &mut [u16], words: usize, gap: usize, code: u16)
+    requires { ⌜ words + gap < length (now img) ⌝ }
+    ensures { λ r. ⌜ take (words + (gap + 1)) (now (img .exit)) ≡ (take words (now (img .entry)) ++ zeros gap) ++ (code ∷ []) ⌝ }
+{
+    pad(img, words, gap);
+    img[words + gap] = code;
+}
+
+// So many cells in form 2.
+fn read_cells(text: &[u8], img: &mut [u16], at: usize, words: usize, n: usize) -> usize
+    requires { ⌜ (at ≤ length (now text)) × ((words + n ≤ length (now img)) × (n ≤ largestImage)) ⌝ }
+    ensures { λ r. ⌜ Placed (readCells true n 0 (take words (now (img .entry))) (drop at (now (text .entry)))) (now (text .entry)) (take (words + n) (now (img .exit))) r ⌝ }
+{
+    let mut p = at;
+    let mut next: usize = 0;
+    let mut first = true;
+    loop {
+        if stands(text, p, NEWLINE) {
+            pad(img, words + next, n - next);
+            return p + 1;
+        }
+        let c = next_cell(text, p, first, next, n);
+        let behind = c.at;
+        let column = c.column;
+        if text.len() < behind {
+            return behind;
+        }
+        put_code(img, words + next, column - next, c.code);
+        p = behind;
+        next = column + 1;
+        first = false;
+    }
+}
+
 // The len of a production as a word, the symbols, and 0 for each that it does not use.
 fn symbols_then(text: &[u8], img: &mut [u16], at: usize, words: usize, len: u16) -> usize
     requires { ⌜ (at ≤ length (now text)) × ((words + (1 + mostSymbols) ≤ length (now img)) × (len ≤ mostSymbols)) ⌝ }
@@ -187,27 +290,15 @@ fn read_group(text: &[u8], img: &mut [u16], at: usize, words: usize) -> usize
 
 // What stands behind the `=` of a line.
 fn read_row(text: &[u8], img: &mut [u16], at: usize, words: usize, row: Row) -> usize
-    requires { ⌜ (at ≤ length (now text)) × (words + rowWidth row ≤ length (now img)) ⌝ }
+    requires { ⌜ (at ≤ length (now text)) × ((words + rowWidth row ≤ length (now img)) × (rowWidth row ≤ largestImage)) ⌝ }
     ensures { λ r. ⌜ Placed (readRow row (take words (now (img .entry))) (drop at (now (text .entry)))) (now (text .entry)) (take (words + rowWidth row) (now (img .exit))) r ⌝ }
 {
     match row {
         Row::Numbers(n) => read_numbers(text, img, at, words, n, NEWLINE),
+        Row::Cells(n) => read_cells(text, img, at, words, n),
         Row::Sets(n) => read_sets(text, img, at, words, n, NEWLINE),
         Row::Production => read_production(text, img, at, words),
         Row::Group => read_group(text, img, at, words),
-    }
-}
-
-// The words of a row.
-fn row_width(row: Row) -> usize
-    requires { ⌜ rowWidth row ≤ largestImage ⌝ }
-    ensures { λ r. ⌜ r ≡ rowWidth row ⌝ }
-{
-    match row {
-        Row::Numbers(n) => n,
-        Row::Sets(n) => n * SET_WORDS,
-        Row::Production => pack::image::PRODUCTION_WORDS,
-        Row::Group => pack::image::GROUP_WORDS,
     }
 }
 
@@ -220,7 +311,7 @@ pub fn read_line(
     name: &[u8],
     row: Row,
 ) -> usize
-    requires { ⌜ (at ≤ length (now text)) × (words + rowWidth row ≤ length (now img)) ⌝ }
+    requires { ⌜ (at ≤ length (now text)) × ((words + rowWidth row ≤ length (now img)) × (rowWidth row ≤ largestImage)) ⌝ }
     ensures { λ r. ⌜ Placed (thenRead (expect (now (name .entry)) (take words (now (img .entry))) (drop at (now (text .entry)))) (readRow row)) (now (text .entry)) (take (words + rowWidth row) (now (img .exit))) r ⌝ }
 {
     let p = expect(text, at, name);
@@ -259,7 +350,7 @@ pub fn read_lines(
             };
         }
         start = p;
-        words += row_width(row);
+        words += text::row_width(row);
         left -= 1;
     }
     Cursor {

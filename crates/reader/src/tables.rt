@@ -4,6 +4,7 @@ use crate::lines::expect;
 use crate::lines::read_line;
 use crate::lines::read_lines;
 use numbers::is_wrong;
+use text::Form;
 use text::Row;
 ghost use mathlib.Core.Path.{_≡_};
 ghost use mathlib.Core.Bool.{true};
@@ -11,17 +12,27 @@ ghost use mathlib.Core.List.{List};
 ghost use Prim.Native.Nat.{ℕ, _+_, _*_, _<_, _≤_};
 ghost use lib.ListN.{length};
 ghost use Rattle.pack.specs.Image.{largestImage, needed};
-ghost use Rattle.text.specs.Form.{rowWidth, tableAt, tablesOf, tableWords};
-ghost use Rattle.text.specs.Reader.{thenLines, readLines, readTables, readHead, ended, readAll};
-ghost use Rattle.reader.specs.Steps.{linesOf, ReadsLines};
+ghost use Rattle.text.specs.Form.{packLine, rowWidth, tableAt, tablesOf, tableWords};
+ghost use Rattle.text.specs.Reader.{expect, thenLines, readLines, readTables, readHead, ended, readIn};
+ghost use Rattle.reader.specs.Steps.{Placed, linesOf, ReadsLines};
+
+// The first line of a form.
+pub fn first_line(text: &[u8], form: Form) -> usize
+    ensures { λ r. ⌜ ((words : List ℕ) → Placed (expect (packLine form) words (now (text .entry))) (now (text .entry)) words r) ⌝ }
+{
+    match form {
+        Form::One => expect(text, 0, b"pack=1\n"),
+        Form::Two => expect(text, 0, b"pack=2\n"),
+    }
+}
 
 // The first two lines. The limits of the sizes are a part of the form of their line.
-pub fn read_head(text: &[u8], head: &mut [u16]) -> Cursor
+pub fn read_head(text: &[u8], form: Form, head: &mut [u16]) -> Cursor
     requires { ⌜ length (now head) ≡ 9 ⌝ }
-    ensures { λ r. ⌜ ReadsLines (readHead (now (text .entry))) (now (text .entry)) (now (head .exit)) 9 r ⌝ }
+    ensures { λ r. ⌜ ReadsLines (readHead form (now (text .entry))) (now (text .entry)) (now (head .exit)) 9 r ⌝ }
 {
     head[0] = 1;
-    let start = expect(text, 0, b"pack=1\n");
+    let start = first_line(text, form);
     if text.len() < start {
         return Cursor {
             ok: false,
@@ -52,9 +63,9 @@ pub fn read_head(text: &[u8], head: &mut [u16]) -> Cursor
 }
 
 // Table i, as the sizes in the head say.
-fn read_table(text: &[u8], head: &[u16], img: &mut [u16], c: Cursor, i: usize) -> Cursor
-    requires { ⌜ (c .at ≤ length (now text)) × ((9 ≤ length (now head)) × ((i < 9) × ((c .words + tableAt (now head) i .lines * rowWidth (tableAt (now head) i .row) ≤ length (now img)) × (c .words + tableAt (now head) i .lines * rowWidth (tableAt (now head) i .row) ≤ largestImage)))) ⌝ }
-    ensures { λ r. ⌜ ReadsLines (thenLines (linesOf (now (text .entry)) (now (img .entry)) c) (readLines (tableAt (now (head .entry)) i .name) (tableAt (now (head .entry)) i .row) (tableAt (now (head .entry)) i .lines))) (now (text .entry)) (now (img .exit)) (c .words + tableAt (now (head .entry)) i .lines * rowWidth (tableAt (now (head .entry)) i .row)) r ⌝ }
+fn read_table(text: &[u8], form: Form, head: &[u16], img: &mut [u16], c: Cursor, i: usize) -> Cursor
+    requires { ⌜ (c .at ≤ length (now text)) × ((9 ≤ length (now head)) × ((i < 9) × ((c .words + tableAt form (now head) i .lines * rowWidth (tableAt form (now head) i .row) ≤ length (now img)) × (c .words + tableAt form (now head) i .lines * rowWidth (tableAt form (now head) i .row) ≤ largestImage)))) ⌝ }
+    ensures { λ r. ⌜ ReadsLines (thenLines (linesOf (now (text .entry)) (now (img .entry)) c) (readLines (tableAt form (now (head .entry)) i .name) (tableAt form (now (head .entry)) i .row) (tableAt form (now (head .entry)) i .lines))) (now (text .entry)) (now (img .exit)) (c .words + tableAt form (now (head .entry)) i .lines * rowWidth (tableAt form (now (head .entry)) i .row)) r ⌝ }
 {
     let mut name = [0u8; text::LONGEST_NAME];
     let size = text::name_of(i, &mut name);
@@ -63,20 +74,20 @@ fn read_table(text: &[u8], head: &[u16], img: &mut [u16], c: Cursor, i: usize) -
         img,
         c,
         &name[..size],
-        text::row_of(head, i),
+        text::row_of(head, i, form),
         text::lines_of(head, i),
     )
 }
 
 // The tables, in the order of their list.
-fn read_tables(text: &[u8], head: &[u16], img: &mut [u16], c: Cursor) -> Cursor
-    requires { ⌜ (c .at ≤ length (now text)) × ((9 ≤ length (now head)) × ((c .words + tableWords (tablesOf (now head)) ≤ length (now img)) × (c .words + tableWords (tablesOf (now head)) ≤ largestImage))) ⌝ }
-    ensures { λ r. ⌜ ReadsLines (thenLines (linesOf (now (text .entry)) (now (img .entry)) c) (readTables (tablesOf (now (head .entry))))) (now (text .entry)) (now (img .exit)) (c .words + tableWords (tablesOf (now (head .entry)))) r ⌝ }
+fn read_tables(text: &[u8], form: Form, head: &[u16], img: &mut [u16], c: Cursor) -> Cursor
+    requires { ⌜ (c .at ≤ length (now text)) × ((9 ≤ length (now head)) × ((c .words + tableWords (tablesOf form (now head)) ≤ length (now img)) × (c .words + tableWords (tablesOf form (now head)) ≤ largestImage))) ⌝ }
+    ensures { λ r. ⌜ ReadsLines (thenLines (linesOf (now (text .entry)) (now (img .entry)) c) (readTables (tablesOf form (now (head .entry))))) (now (text .entry)) (now (img .exit)) (c .words + tableWords (tablesOf form (now (head .entry)))) r ⌝ }
 {
     let mut d = c;
     let mut i: usize = 0;
     while i < text::TABLES {
-        d = read_table(text, head, img, d, i);
+        d = read_table(text, form, head, img, d, i);
         i += 1;
     }
     d
@@ -104,10 +115,10 @@ fn ended(text: &[u8], c: Cursor) -> Cursor
 }
 
 // The whole text, where its head has been read into a row of its own and is right. So its sizes stay while the tables are read into the image.
-pub fn read_all(text: &[u8], head: &[u16], img: &mut [u16], c: Cursor) -> Cursor
-    requires { ⌜ (length (now head) ≡ 9) × ((ReadsLines (readHead (now text)) (now text) (now head) 9 c) × ((c .ok ≡ true) × (needed (now head) ≤ length (now img)))) ⌝ }
-    ensures { λ r. ⌜ ReadsLines (readAll (now (text .entry))) (now (text .entry)) (now (img .exit)) (needed (now (head .entry))) r ⌝ }
+pub fn read_all(text: &[u8], form: Form, head: &[u16], img: &mut [u16], c: Cursor) -> Cursor
+    requires { ⌜ (length (now head) ≡ 9) × ((ReadsLines (readHead form (now text)) (now text) (now head) 9 c) × ((c .ok ≡ true) × (needed (now head) ≤ length (now img)))) ⌝ }
+    ensures { λ r. ⌜ ReadsLines (readIn form (now (text .entry))) (now (text .entry)) (now (img .exit)) (needed (now (head .entry))) r ⌝ }
 {
     numbers::deliver(head, img);
-    ended(text, read_tables(text, head, img, c))
+    ended(text, read_tables(text, form, head, img, c))
 }

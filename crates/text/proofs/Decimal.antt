@@ -203,3 +203,24 @@ module _ (limit : ℕ) where
       go false p b q = simp (readNumber, numberIn, p) (omega arith)
       go true p true q = simp (readNumber, numberIn, p, q) (omega arith)
       go true p false q = simp (readNumber, numberIn, p, q) (leb-true _ _ p)
+
+  -- Where no number stands, its value is 0; a byte that is no digit begins none.
+  pub number-unread : (bytes : List ℕ) → readNumber limit bytes .used ≡ 0 → readNumber limit bytes .value ≡ 0
+  unfolding readNumber numberIn
+  number-unread bytes = go (leb (digitsFrom limit bytes 0 0 .value) limit) refl (eqb (getD bytes 0 0) 48 && leb 2 (digitsFrom limit bytes 0 0 .used)) refl
+    where
+      go : (a : Bool) → leb (digitsFrom limit bytes 0 0 .value) limit ≡ a → (b : Bool) → (eqb (getD bytes 0 0) 48 && leb 2 (digitsFrom limit bytes 0 0 .used)) ≡ b
+          → readNumber limit bytes .used ≡ 0 → readNumber limit bytes .value ≡ 0
+      go false p b q z = simp (readNumber, numberIn, p)
+      go true p true q z = simp (readNumber, numberIn, p, q)
+      go true p false q z =
+          let r : readNumber limit bytes ≡ digitsFrom limit bytes 0 0 = simp (readNumber, numberIn, p, q) in
+          rw r (stays bytes 0 0 (rw r at z))
+
+  pub number-no-digit : (bytes : List ℕ) → isDigit (getD bytes 0 0) ≡ false → readNumber limit bytes .used ≡ 0
+  unfolding readNumber numberIn
+  number-no-digit bytes e = go (eqb (getD bytes 0 0) 48) refl
+    where
+      go : (x : Bool) → eqb (getD bytes 0 0) 48 ≡ x → readNumber limit bytes .used ≡ 0
+      go true p = simp (readNumber, numberIn, digits-end limit bytes 0 0 e, le-leb 0 limit (omega arith), p)
+      go false p = simp (readNumber, numberIn, digits-end limit bytes 0 0 e, le-leb 0 limit (omega arith), p)

@@ -1,7 +1,7 @@
 -- Round trip from the image: the text of an image of good shape is read back as that image, field by field, row by row, line by
 -- line and table by table.
 use mathlib.Core.Path.{_≡_, refl, sym, ap, _∙_}
-use mathlib.Core.Bool.{false, _&&_}
+use mathlib.Core.Bool.{Bool, true, false, _&&_}
 use mathlib.Core.List.{List, [], _∷_, _++_, append-assoc, append-nil}
 use Prim.Native.Nat.{ℕ, zero, suc, _+_, _*_, _-_, _<_, _≤_}
 use native.Mathlib.Nat.{suc-mul, add-zero}
@@ -13,21 +13,18 @@ use borrow.Author.Tests.{eq-eqb, lt-leb}
 use Rattle.text.specs.declared.Kind.{Kind}
 use Rattle.text.specs.declared.Kind.the-variants.{Number, Set}
 use Rattle.text.specs.declared.Row.{Row}
-use Rattle.text.specs.declared.Row.the-variants.{Numbers, Sets, Production, Group}
+use Rattle.text.specs.declared.Row.the-variants.{Numbers, Cells, Sets, Production, Group}
 use Rattle.text.specs.Decimal.{isDigit, decimal}
 use Rattle.text.specs.Fields.{greatestWord, readField, wordsOf, widthOf, hexWord, fieldText}
-use Rattle.text.specs.Form.{Table, newline, comma, after, rowWidth, tableWords}
-use Rattle.text.specs.Reader.{thenRead, expect, fieldThen, readFields, zeros, readSymbols, readRow, thenLines, asLine, readLines, readTables}
+use Rattle.text.specs.Form.{Table, newline, comma, after, columnText, rowWidth, tableWords}
+use Rattle.text.specs.Reader.{thenRead, expect, fieldThen, readFields, readCode, readCells, zeros, readSymbols, readRow, thenLines, asLine, readLines, readTables}
 use Rattle.text.specs.Reader.Line.{took}
 use Rattle.text.specs.Reader.Lines.{all}
-use Rattle.text.specs.Writer.{fieldsText, rowText, linesText, tablesText}
+use Rattle.text.specs.Writer.{fieldsText, cellsText, rowText, linesText, tablesText}
 use Rattle.text.proofs.Decimal.{field, number-back, decimal-some}
 use Rattle.text.proofs.Hex.{set-back, value-words, valueOf}
-use Rattle.text.proofs.Lines.{field-then, symbols-go}
-
--- Every word has 16 bits.
-abbrev pub Small : List ℕ → Type 0
-Small img = (i : ℕ) → getD img i 0 < 65536
+use Rattle.text.proofs.Lines.{Small, expect-next, expect-name, field-then, symbols-go}
+use Rattle.text.proofs.Cells.{cells-none, cells-some, cell-code, code-some, text-none, text-some, text-low, text-later}
 
 -- The production at place i has at most 14 symbols, and its unused ones are 0.
 pub record ProdRight (img : List ℕ) (i : ℕ) : Type 0 where
@@ -41,10 +38,6 @@ pub data Right (img : List ℕ) : List Table → ℕ → Type 0 where
       → Right img tables (i + t .lines * rowWidth (t .row)) → Right img (t ∷ tables) i
 
 -- ---- a field
-expect-next : (c : ℕ) (w rest : List ℕ) → expect (c ∷ []) w (c ∷ rest) ≡ took w rest
-unfolding expect
-expect-next c w rest = simp (expect, eq-eqb c c refl)
-
 module _ (img : List ℕ) (small : Small img) where
   -- A byte below the digits ends a number.
   low : (c : ℕ) → c < 48 → isDigit c ≡ false
@@ -101,6 +94,39 @@ module _ (img : List ℕ) (small : Small img) where
       )
       (fields-back kind n end (i + widthOf kind) rest (omega (arith, z)) e ∙ rw z)
 
+  -- ---- cells
+  code-back : (i : ℕ) (rest : List ℕ) → i < length img → isDigit (getD rest 0 0) ≡ false → (getD img i 0 ≡ 0 → ⊥)
+      → readCode (take i img) (fieldText Number img i ++ rest) ≡ took (take (i + 1) img) rest
+  unfolding fieldText
+  code-back i rest h l z =
+      let n = getD img i 0 in
+      code-some (take i img) (decimal n ++ rest) (field n (length (decimal n))) (sym (number-back greatestWord n rest (omega (arith, small i)) l)) z
+      ∙ rw (drop-at (decimal n) rest (length (decimal n)) refl, take-one i h)
+
+  cells-back : (n : ℕ) (first : Bool) (column i : ℕ) (rest : List ℕ) → i + n ≤ length img
+      → readCells first n column (take i img) (cellsText first n column img i ++ rest) ≡ took (take (i + n) img) rest
+  unfolding readCells cellsText
+  cells-back zero first column i rest h = expect-next newline (take i img) rest ∙ rw (add-zero i)
+  cells-back (suc n) first column i rest h = go (getD img i 0) refl (λ f. cells-back n f (column + 1) (i + 1) rest (omega arith))
+    where
+      y : i + 1 + n ≡ i + suc n
+      y = omega arith
+
+      go : (v : ℕ) → getD img i 0 ≡ v → ((f : Bool) → readCells f n (column + 1) (take (i + 1) img) (cellsText f n (column + 1) img (i + 1) ++ rest) ≡ took (take (i + 1 + n) img) rest)
+          → readCells first (suc n) column (take i img) (cellsText first (suc n) column img i ++ rest) ≡ took (take (i + suc n) img) rest
+      go zero e ih =
+          let x : take i img ++ (0 ∷ []) ≡ take (i + 1) img = ap (λ (v : ℕ). take i img ++ (v ∷ [])) (sym e) ∙ take-one i (omega arith) in
+          rw (text-none first n column img i e)
+          (cells-none first n column (take i img) _ (text-later n first column (column + 1) img (i + 1) (take i img) rest (omega arith)) ∙ rw x (ih first ∙ rw y))
+      go (suc k) e ih =
+          let z : getD img i 0 ≡ 0 → ⊥ = λ p. omega (arith, e, p) in
+          let f = fieldText Number img i in
+          let tail = cellsText false n (column + 1) img (i + 1) in
+          rw (text-some first n column img i z, append-assoc (columnText first column) (f ++ tail) rest, append-assoc f tail rest)
+          (cells-some first n column (take i img) _ (take (i + 1) img) (tail ++ rest)
+          (cell-code first column (take i img) (f ++ (tail ++ rest)) ∙ code-back i (tail ++ rest) (omega arith) (text-low n (column + 1) img (i + 1) rest) z)
+          ∙ ih false ∙ rw y)
+
   -- ---- rows
   pads : (k s : ℕ) → s + k ≤ length img → ((j : ℕ) → j < k → getD img (s + j) 0 ≡ 0) → take s img ++ zeros k ≡ take (s + k) img
   unfolding zeros
@@ -151,6 +177,7 @@ module _ (img : List ℕ) (small : Small img) where
       → readRow row (take i img) (rowText row img i ++ rest) ≡ took (take (i + rowWidth row) img) rest
   unfolding readRow rowText rowWidth thenRead fieldText
   row-back (Numbers n) i rest h p = let z : i + n * 1 ≡ i + n = omega arith in fields-back Number n newline i rest (omega arith) (omega arith) ∙ rw z
+  row-back (Cells n) i rest h p = cells-back n true 0 i rest h
   row-back (Sets n) i rest h p = fields-back Set n newline i rest h (omega arith)
   row-back Production i rest h p =
       let n = getD img (i + 1) 0 in
@@ -166,15 +193,6 @@ module _ (img : List ℕ) (small : Small img) where
       rw (group-text i rest, field-back Set i comma tail (omega arith) (omega arith)) (field-back Number (i + 4) newline rest (omega arith) (omega arith) ∙ rw y)
 
   -- ---- lines
-  expect-cons : (c : ℕ) (name w bytes : List ℕ) → expect (c ∷ name) w (c ∷ bytes) ≡ expect name w bytes
-  unfolding expect
-  expect-cons c name w bytes = simp (expect, eq-eqb c c refl)
-
-  pub expect-name : (name w rest : List ℕ) → expect name w (name ++ rest) ≡ took w rest
-  unfolding expect
-  expect-name [] w rest = refl
-  expect-name (c ∷ name) w rest = expect-cons c name w (name ++ rest) ∙ expect-name name w rest
-
   lines-back : (name : List ℕ) (row : Row) (n i : ℕ) (rest : List ℕ) → i + n * rowWidth row ≤ length img → ((k : ℕ) → k < n → row ≡ Production → ProdRight img (i + k * rowWidth row))
       → readLines name row n (take i img) (linesText name row n img i ++ rest) ≡ all (take (i + n * rowWidth row) img) rest
   unfolding readLines linesText thenLines asLine thenRead

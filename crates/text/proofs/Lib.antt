@@ -1,7 +1,9 @@
+pub mod Cells
 pub mod Decimal
 pub mod Hex
 pub mod ImageTrip
 pub mod Lines
+pub mod Reform
 pub mod RoundTrip
 pub mod Tables
 pub mod TextTrip

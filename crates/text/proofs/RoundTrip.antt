@@ -16,21 +16,29 @@ use Rattle.rules.specs.Rules.{symbolRight}
 use Rattle.shape.specs.Shape.{each, sizeRule, symbolRule, prodRule, headRules, parserRules, shape}
 use Rattle.shape.proofs.Laws.{rule-good, and-then-good, each-good, each-all}
 use Rattle.shape.proofs.Good.{good-laid}
-use Rattle.text.specs.declared.Row.the-variants.{Numbers, Sets, Production, Group}
+use Rattle.text.specs.declared.Row.the-variants.{Numbers, Cells, Sets, Production, Group}
+use Rattle.text.specs.declared.Form.{Form}
+use Rattle.text.specs.declared.Form.the-variants.{One, Two}
 use Rattle.numbers.specs.Front.{deliver}
-use Rattle.text.specs.Form.{packLine, sizes, tablesOf, rowWidth, tableWords}
-use Rattle.text.specs.Reader.{Lines, thenRead, thenLines, asLine, readTables, limited, readHead, ended, readAll, judge, read}
+use Rattle.text.specs.Form.{packLine, cellsIn, sizes, tablesOf, rowWidth, tableWords}
+use Rattle.text.specs.Reader.{Lines, thenRead, expect, thenLines, asLine, readTables, limited, readHead, ended, readIn, formOf, readAll, judge, read}
 use Rattle.text.specs.Reader.Line.{took}
 use Rattle.text.specs.Reader.Lines.{wrongFrom, all}
 use Rattle.text.specs.Writer.{rowText, linesText, tablesText, textOf, writeGood, write}
+use Rattle.text.proofs.Lines.{Small, expect-name}
 use Rattle.text.proofs.Tables.{tables-needed, tables-take}
-use Rattle.text.proofs.ImageTrip.{Small, ProdRight, Right, take-one, expect-name, row-back, tables-back}
+use Rattle.text.proofs.ImageTrip.{ProdRight, Right, take-one, row-back, tables-back}
 use Rattle.text.proofs.TextTrip.{text-back}
 use Rattle.text.proofs.ImageTrip.Right.{no-more, more}
 
 -- No other row is a production.
 numbers-not : (n : ℕ) → Numbers n ≡ Production → ⊥
 numbers-not n e = let z : _≡_ {A = ℕ} 0 1 = cc in absurd (omega arith)
+
+cells-not : (form : Form) (n : ℕ) → cellsIn form n ≡ Production → ⊥
+unfolding cellsIn
+cells-not One n e = let z : _≡_ {A = ℕ} 0 1 = cc in absurd (omega arith)
+cells-not Two n e = let z : _≡_ {A = ℕ} 0 1 = cc in absurd (omega arith)
 
 sets-not : (n : ℕ) → Sets n ≡ Production → ⊥
 sets-not n e = let z : _≡_ {A = ℕ} 0 1 = cc in absurd (omega arith)
@@ -40,6 +48,16 @@ group-not e = let z : _≡_ {A = ℕ} 0 1 = cc in absurd (omega arith)
 
 line-one : (name row rest : List ℕ) → ((name ++ row) ++ []) ++ rest ≡ name ++ (row ++ rest)
 line-one name row rest = ap (λ (l : List ℕ). l ++ rest) (append-nil (name ++ row)) ∙ append-assoc name row rest
+
+-- The first line of a text tells its form.
+form-line : (form : Form) (rest : List ℕ) → formOf (packLine form ++ rest) ≡ form
+unfolding formOf packLine expect
+form-line One rest = refl
+form-line Two rest = refl
+
+pub form-of : (form : Form) (img : List ℕ) → formOf (textOf form img) ≡ form
+unfolding textOf
+form-of form img = form-line form _
 
 -- ---- what good shape gives
 module _ (img : List ℕ) (good : shape img ≡ Good) where
@@ -63,25 +81,25 @@ module _ (img : List ℕ) (good : shape img ≡ Good) where
       }
 
   -- Only the third table has productions.
-  tables-right : Right img (tablesOf img) layoutAt
-  unfolding tablesOf rowWidth
-  tables-right =
+  tables-right : (form : Form) → Right img (tablesOf form img) layoutAt
+  unfolding tablesOf rowWidth cellsIn
+  tables-right form =
       more (λ k h e. absurd (sets-not 1 e))
       (more (λ k h e. absurd (sets-not 1 e))
       (more (λ k h e. prod-right k h)
-      (more (λ k h e. absurd (numbers-not _ e))
-      (more (λ k h e. absurd (numbers-not _ e))
+      (more (λ k h e. absurd (cells-not form _ e))
+      (more (λ k h e. absurd (cells-not form _ e))
       (more (λ k h e. absurd (numbers-not 3 e))
-      (more (λ k h e. absurd (numbers-not _ e))
+      (more (λ k h e. absurd (cells-not form _ e))
       (more (λ k h e. absurd (sets-not 3 e))
       (more (λ k h e. absurd (group-not e))
       no-more))))))))
 
-  all-words : layoutAt + tableWords (tablesOf img) ≡ length img
-  all-words = tables-needed img ∙ sym (good-laid img good .whole)
+  all-words : (form : Form) → layoutAt + tableWords (tablesOf form img) ≡ length img
+  all-words form = tables-needed form img ∙ sym (good-laid img good .whole)
 
   nine : 9 ≤ length img
-  nine = omega (arith, all-words)
+  nine = omega (arith, all-words One)
 
   sizes-good : each (sizeRule img) 8 1 ≡ Good
   unfolding shape headRules
@@ -99,40 +117,44 @@ module _ (img : List ℕ) (good : shape img ≡ Good) where
   unfolding limited
   limited-front rest = simp (limited, each-all (sizeRule (take 9 img)) 8 1 size-front)
 
-  tables-same : tablesOf (take 9 img) ≡ tablesOf img
-  tables-same = tables-take img 9 (omega arith)
+  tables-same : (form : Form) → tablesOf form (take 9 img) ≡ tablesOf form img
+  tables-same form = tables-take form img 9 (omega arith)
 
   module _ (small : Small img) where
-    head-back : (rest : List ℕ) → readHead (packLine ++ (linesText (sizes .name) (sizes .row) (sizes .lines) img 1 ++ rest)) ≡ all (take 9 img) rest
+    head-back : (form : Form) (rest : List ℕ) → readHead form (packLine form ++ (linesText (sizes .name) (sizes .row) (sizes .lines) img 1 ++ rest)) ≡ all (take 9 img) rest
     unfolding readHead thenLines asLine thenRead sizes linesText rowWidth
-    head-back rest =
+    head-back form rest =
         let o : 1 ∷ [] ≡ take 1 img = ap (λ (v : ℕ). v ∷ []) (sym first) ∙ take-one img small 0 (omega (arith, nine)) in
         let n = sizes .name in
         let t : linesText n (Numbers 8) 1 img 1 ++ rest ≡ n ++ (rowText (Numbers 8) img 1 ++ rest) = line-one n (rowText (Numbers 8) img 1) rest in
         rw (
-          expect-name img small packLine (1 ∷ []) (linesText n (Numbers 8) 1 img 1 ++ rest),
+          expect-name (packLine form) (1 ∷ []) (linesText n (Numbers 8) 1 img 1 ++ rest),
           t,
           o,
-          expect-name img small n (take 1 img) (rowText (Numbers 8) img 1 ++ rest),
+          expect-name n (take 1 img) (rowText (Numbers 8) img 1 ++ rest),
           row-back img small (Numbers 8) 1 rest (omega (arith, nine)) (λ e. absurd (numbers-not 8 e)),
           limited-front rest,
         )
 
-    -- The text of an image of good shape is read back as that image.
-    pub image-back : readAll (textOf img) ≡ all img []
-    unfolding readAll textOf thenLines ended
-    image-back =
-        let t : tablesText (tablesOf img) img layoutAt ≡ tablesText (tablesOf img) img layoutAt ++ [] = sym (append-nil _) in
-        let w : readTables (tablesOf img) (take 9 img) (tablesText (tablesOf img) img layoutAt) ≡ all img [] =
-        ap (readTables (tablesOf img) (take 9 img)) t ∙ tables-back img small (tablesOf img) layoutAt [] (omega (arith, all-words)) tables-right
-        ∙ rw (all-words, take-length img) in
-        rw (head-back (tablesText (tablesOf img) img layoutAt), tables-same, w)
+    -- The text of an image of good shape is read back as that image, in either form.
+    pub image-in : (form : Form) → readIn form (textOf form img) ≡ all img []
+    unfolding readIn textOf thenLines ended
+    image-in form =
+        let x = tablesText (tablesOf form img) img layoutAt in
+        let w : readTables (tablesOf form img) (take 9 img) x ≡ all img [] =
+        ap (readTables (tablesOf form img) (take 9 img)) (sym (append-nil x)) ∙ tables-back img small (tablesOf form img) layoutAt [] (omega (arith, all-words form)) (tables-right form)
+        ∙ rw (all-words form, take-length img) in
+        rw (head-back form x, tables-same form, w)
+
+    pub image-back : (form : Form) → readAll (textOf form img) ≡ all img []
+    unfolding readAll
+    image-back form = rw (form-of form img) (image-in form)
 
     -- So a reader with room enough gives done and exactly that image.
-    pub image-read : (buffer : List ℕ) → length (textOf img) ≤ 65535 → length img ≤ length buffer
-        → read (textOf img) buffer ≡ record { answer = record { code = 0; number = length img }; written = img }
+    pub image-read : (form : Form) (buffer : List ℕ) → length (textOf form img) ≤ 65535 → length img ≤ length buffer
+        → read (textOf form img) buffer ≡ record { answer = record { code = 0; number = length img }; written = img }
     unfolding read judge deliver
-    image-read buffer h l = simp (read, le-ltb 65535 (length (textOf img)) h, image-back, judge, good, deliver, le-ltb (length buffer) (length img) l)
+    image-read form buffer h l = simp (read, le-ltb 65535 (length (textOf form img)) h, image-back form, judge, good, deliver, le-ltb (length buffer) (length img) l)
 
 -- ---- what the reader accepts
 ended-nil : (l : Lines) (w b : List ℕ) → thenLines l ended ≡ all w b → b ≡ []
@@ -141,9 +163,9 @@ ended-nil (wrongFrom c) w b e = let z : _≡_ {A = ℕ} 0 1 = cc in absurd (omeg
 ended-nil (all u []) w b e = cc
 ended-nil (all u (x ∷ c)) w b e = let z : _≡_ {A = ℕ} 0 1 = cc in absurd (omega arith)
 
-read-nil : (text w b : List ℕ) → readAll text ≡ all w b → b ≡ []
-unfolding readAll
-read-nil text w b e = ended-nil _ w b e
+pub read-nil : (form : Form) (text w b : List ℕ) → readIn form text ≡ all w b → b ≡ []
+unfolding readIn
+read-nil form text w b e = ended-nil _ w b e
 
 -- Where it says done: the text is not too long, all its lines are right, the words have good shape, and there was room for them.
 pub record Accepted (text buffer : List ℕ) : Type 0 where
@@ -155,7 +177,7 @@ pub record Accepted (text buffer : List ℕ) : Type 0 where
   pub whole : read text buffer ≡ record { answer = record { code = 0; number = length words }; written = words }
 
 pub accepted : (text buffer : List ℕ) → read text buffer .answer .code ≡ 0 → Accepted text buffer
-unfolding read judge deliver
+unfolding read readAll judge deliver
 accepted text buffer done = long (ltb 65535 (length text)) refl
   where
     room : (w : List ℕ) → ltb 65535 (length text) ≡ false → readAll text ≡ all w [] → shape w ≡ Good → (x : Bool) → ltb (length buffer) (length w) ≡ x → Accepted text buffer
@@ -175,7 +197,7 @@ accepted text buffer done = long (ltb 65535 (length text)) refl
 
     lined : ltb 65535 (length text) ≡ false → (l : Lines) → readAll text ≡ l → Accepted text buffer
     lined a (wrongFrom c) b = let z : _≡_ {A = ℕ} 1 0 = simp (read, a, b, judge) at done in absurd (omega arith)
-    lined a (all w c) b = formed w a (b ∙ ap (all w) (read-nil text w c b)) (shape w) refl
+    lined a (all w c) b = formed w a (b ∙ ap (all w) (read-nil (formOf text) text w c b)) (shape w) refl
 
     long : (x : Bool) → ltb 65535 (length text) ≡ x → Accepted text buffer
     long true a = let z : _≡_ {A = ℕ} 2 0 = simp (read, a) at done in absurd (omega arith)
@@ -185,22 +207,26 @@ accepted text buffer done = long (ltb 65535 (length text)) refl
 pub shape-read : (text buffer : List ℕ) → read text buffer .answer .code ≡ 0 → shape (read text buffer .written) ≡ Good
 shape-read text buffer done = let a = accepted text buffer done in rw (a .whole) (a .good)
 
--- Its text is the text that was read, byte for byte.
-pub text-read : (text buffer : List ℕ) → read text buffer .answer .code ≡ 0 → textOf (read text buffer .written) ≡ text
-text-read text buffer done = let a = accepted text buffer done in rw (a .whole) (text-back text (a .words) (a .lines))
+-- Its text in the form that was read is the text that was read, byte for byte.
+pub text-all : (text words : List ℕ) → readAll text ≡ all words [] → textOf (formOf text) words ≡ text
+unfolding readAll
+text-all text words e = text-back (formOf text) text words e
 
--- No two texts have one image, and no text has two.
-pub one-text : (a b words : List ℕ) → readAll a ≡ all words [] → readAll b ≡ all words [] → a ≡ b
-one-text a b words p q = sym (text-back a words p) ∙ text-back b words q
+pub text-read : (text buffer : List ℕ) → read text buffer .answer .code ≡ 0 → textOf (formOf text) (read text buffer .written) ≡ text
+text-read text buffer done = let a = accepted text buffer done in rw (a .whole) (text-all text (a .words) (a .lines))
+
+-- In a form no two texts have one image, and no text has two.
+pub one-text : (form : Form) (a b words : List ℕ) → readIn form a ≡ all words [] → readIn form b ≡ all words [] → a ≡ b
+one-text form a b words p q = sym (text-back form a words p) ∙ text-back form b words q
 
 pub one-image : (text a b : List ℕ) → readAll text ≡ all a [] → readAll text ≡ all b [] → a ≡ b
 one-image text a b p q = cc
 
 -- What was read is written as it stood, where there is room for it.
 pub text-written : (text buffer out : List ℕ) → read text buffer .answer .code ≡ 0 → length text ≤ length out
-    → write (read text buffer .written) out ≡ record { answer = record { code = 0; number = length text }; written = text }
+    → write (formOf text) (read text buffer .written) out ≡ record { answer = record { code = 0; number = length text }; written = text }
 unfolding write writeGood deliver
 text-written text buffer out done l =
     let a = accepted text buffer done in
-    let t = text-back text (a .words) (a .lines) in
+    let t = text-all text (a .words) (a .lines) in
     rw (a .whole) (simp (write, a .good, writeGood, t, le-ltb 65535 (length text) (a .short), deliver, le-ltb (length out) (length text) l))

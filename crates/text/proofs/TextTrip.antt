@@ -11,24 +11,26 @@ use lib.ListN.{length, getD, take, drop, length-append}
 use lib.Seq.{take-length, take-take, take-append-seam, getD-append-add, getD-take}
 use borrow.Author.Tests.{eqb-true, leb-true, leb-false}
 use Rattle.text.specs.declared.Field.{Field}
+use Rattle.text.specs.declared.Form.{Form}
 use Rattle.text.specs.declared.Kind.{Kind}
 use Rattle.text.specs.declared.Kind.the-variants.{Number, Set}
 use Rattle.text.specs.declared.Row.{Row}
-use Rattle.text.specs.declared.Row.the-variants.{Numbers, Sets, Production, Group}
+use Rattle.text.specs.declared.Row.the-variants.{Numbers, Cells, Sets, Production, Group}
 use Rattle.text.specs.Decimal.{readNumber}
 use Rattle.text.specs.Fields.{greatestWord, readSet, readField, wordsOf, widthOf, hexWord, fieldText}
-use Rattle.text.specs.Form.{Table, newline, comma, after, packLine, sizes, tablesOf, rowWidth, tableWords}
-use Rattle.text.specs.Reader.{Line, Lines, thenRead, expect, fieldThen, readFields, zeros, readSymbols, readRow, thenLines, asLine, readLines, readTables, limited, readHead, ended, readAll}
+use Rattle.text.specs.Form.{Table, newline, comma, after, columnText, packLine, sizes, tablesOf, rowWidth, tableWords}
+use Rattle.text.specs.Reader.{Line, Lines, thenRead, expect, fieldThen, readFields, readCode, readCell, readCells, zeros, readSymbols, readRow, thenLines, asLine, readLines, readTables, limited, readHead, ended, readIn}
 use Rattle.text.specs.Reader.Line.{wrong, took}
 use Rattle.text.specs.Reader.Lines.{wrongFrom, all}
-use Rattle.text.specs.Writer.{fieldsText, rowText, linesText, tablesText, textOf}
+use Rattle.text.specs.Writer.{fieldsText, cellsText, rowText, linesText, tablesText, textOf}
 use Rattle.numbers.specs.declared.Verdict.{Verdict}
 use Rattle.numbers.specs.declared.Verdict.the-variants.{Good, Wrong}
 use Rattle.pack.specs.Image.{layoutAt}
 use Rattle.shape.specs.Shape.{each, sizeRule}
-use Rattle.text.proofs.Decimal.{number-text}
+use Rattle.text.proofs.Decimal.{number-text, number-small, number-unread}
 use Rattle.text.proofs.Hex.{value-words, set-text}
-use Rattle.text.proofs.Lines.{field-none, field-then, symbols-none, symbols-much, symbols-go}
+use Rattle.text.proofs.Lines.{Small, small-none, small-as, small-cons, small-four, small-append, small-zeros, expect-told, not-wrong, field-none, field-then, symbols-none, symbols-much, symbols-go}
+use Rattle.text.proofs.Cells.{cells-none, cells-some, code-some, code-none, text-none, text-some}
 use Rattle.text.proofs.Tables.{tables-take}
 
 -- The image begins with these words.
@@ -36,11 +38,12 @@ abbrev pub Begins : List ℕ → List ℕ → Type 0
 Begins img w = take (length w) img ≡ w
 
 -- Reading from `bytes`, after the words w, came to the words w′ and left `rest`: k more words, and for each image that begins with
--- them the text of what was read stood there.
+-- them the text of what was read stood there. Words of 16 bits stay such.
 pub record Told (k : ℕ) (text : List ℕ → ℕ → List ℕ) (w bytes w′ rest : List ℕ) : Type 0 where
   pub long : length w′ ≡ length w + k
   pub front : Begins w′ w
   pub stood : (img : List ℕ) → Begins img w′ → text img (length w) ++ rest ≡ bytes
+  pub small : Small w → Small w′
 
 begins-back : (img w w′ : List ℕ) → length w ≤ length w′ → Begins w′ w → Begins img w′ → Begins img w
 begins-back img w w′ l f b = sym (take-take (length w) (length w′) img l) ∙ ap (take (length w)) b ∙ f
@@ -54,6 +57,7 @@ told-two {k₁} {k₂} {t₁} {t₂} {w} {bytes} {w₁} {r₁} {w₂} {r₂} p q
   stood = λ img b.
       let c = begins-back img w₁ w₂ (omega (arith, q .long)) (q .front) b in
       append-assoc (t₁ img (length w)) (t₂ img (length w + k₁)) r₂ ∙ ap (λ (l : List ℕ). t₁ img (length w) ++ l) (rw (← p .long) (q .stood img b)) ∙ p .stood img c;
+  small = λ s. q .small (p .small s);
 }
 
 pub told-as : {k : ℕ} {t : List ℕ → ℕ → List ℕ} {w bytes w′ rest : List ℕ} (k′ : ℕ) (t′ : List ℕ → ℕ → List ℕ) → k′ ≡ k
@@ -62,33 +66,21 @@ told-as {rest = rest} k′ t′ e f p = record {
   long = rw e (p .long);
   front = p .front;
   stood = λ img b. ap (λ (l : List ℕ). l ++ rest) (f img b) ∙ p .stood img b;
+  small = p .small;
 }
 
 told-same : {k : ℕ} {t : List ℕ → ℕ → List ℕ} {w bytes u b : List ℕ} (w′ rest : List ℕ) → u ≡ w′ → b ≡ rest → Told k t w bytes u b → Told k t w bytes w′ rest
 told-same w′ rest e f p = rw (← e, ← f) p
 
 -- Words that no bytes stand for.
-told-words : (w vs bytes : List ℕ) → Told (length vs) (λ img i. []) w bytes (w ++ vs) bytes
-told-words w vs bytes = record { long = length-append w vs; front = take-append-seam w vs; stood = λ img b. refl }
+told-words : (w vs bytes : List ℕ) → Small vs → Told (length vs) (λ img i. []) w bytes (w ++ vs) bytes
+told-words w vs bytes v = record { long = length-append w vs; front = take-append-seam w vs; stood = λ img b. refl; small = λ s. small-append w vs s v }
 
 -- ---- bytes that stood next
-pub expect-told : (name w bytes w′ rest : List ℕ) → expect name w bytes ≡ took w′ rest → (w ≡ w′) × (name ++ rest ≡ bytes)
-unfolding expect
-expect-told [] w bytes w′ rest e = (cc, cc)
-expect-told (c ∷ name) w [] w′ rest e = let z : _≡_ {A = ℕ} 0 1 = cc in absurd (omega arith)
-expect-told (c ∷ name) w (b ∷ bytes) w′ rest e = go (expect-told name w bytes w′ rest) (eqb b c) refl
-  where
-    go : (expect name w bytes ≡ took w′ rest → (w ≡ w′) × (name ++ rest ≡ bytes)) → (x : Bool) → eqb b c ≡ x → (w ≡ w′) × (c ∷ (name ++ rest) ≡ b ∷ bytes)
-    go ih true p =
-        let q = ih (simp (expect, p) at e) in
-        let r = eqb-true b c p in
-        (q .0, rw r (ap (λ (l : List ℕ). c ∷ l) (q .1)))
-    go ih false p = let y : wrong ≡ took w′ rest = simp (expect, p) at e in let z : _≡_ {A = ℕ} 0 1 = cc in absurd (omega arith)
-
 told-name : (name w bytes w′ rest : List ℕ) → expect name w bytes ≡ took w′ rest → Told 0 (λ img i. name) w bytes w′ rest
 told-name name w bytes w′ rest e =
     let p = expect-told name w bytes w′ rest e in
-    record { long = rw (p .0) (sym (add-zero (length w′))); front = rw (p .0) (take-length w′); stood = λ img b. p .1 }
+    record { long = rw (p .0) (sym (add-zero (length w′))); front = rw (p .0) (take-length w′); stood = λ img b. p .1; small = λ s. rw (← p .0) s }
 
 -- ---- a field
 word-at : (img w vs : List ℕ) (n : ℕ) → n < length vs → Begins img (w ++ vs) → getD img (length w + n) 0 ≡ getD vs n 0
@@ -113,13 +105,18 @@ field-words Set w bytes img z b =
     rw (u, word-at img w vs 3 (omega arith) c, word-at img w vs 2 (omega arith) c, word-at img w vs 1 (omega arith) c, word-here img w vs (omega arith) c)
     (ap (λ (l : List ℕ). hexWord (s .d) (hexWord (s .c) (hexWord (s .b) (hexWord (s .a) (drop 16 l))))) (s .is) ∙ sym (s .is))
 
+field-small : (kind : Kind) (bytes : List ℕ) → (readField kind bytes .used ≡ 0 → ⊥) → Small (wordsOf kind (readField kind bytes .value))
+unfolding readField wordsOf
+field-small Number bytes z = small-cons _ [] (omega (arith, number-small greatestWord bytes)) small-none
+field-small Set bytes z =
+    let s = set-text bytes z in
+    small-as (ap (λ (f : Field). wordsOf Set (f .value)) (s .value) ∙ value-words (s .a) (s .b) (s .c) (s .d) (s .a-small) (s .b-small) (s .c-small) (s .d-small))
+    (small-four (s .a) (s .b) (s .c) (s .d) (s .a-small) (s .b-small) (s .c-small) (s .d-small))
+
 width-is : (kind : Kind) (v : ℕ) → length (wordsOf kind v) ≡ widthOf kind
 unfolding wordsOf
 width-is Number v = refl
 width-is Set v = refl
-
-not-wrong : (w rest : List ℕ) → wrong ≡ took w rest → ⊥
-not-wrong w rest e = let z : _≡_ {A = ℕ} 0 1 = cc in omega arith
 
 module _ (kind : Kind) (c : ℕ) (w bytes w′ rest : List ℕ) (e : fieldThen kind c w bytes ≡ took w′ rest) where
   field-used : readField kind bytes .used ≡ 0 → ⊥
@@ -136,6 +133,7 @@ module _ (kind : Kind) (c : ℕ) (w bytes w′ rest : List ℕ) (e : fieldThen k
         stood = λ img b.
             append-assoc (fieldText kind img (length w)) (c ∷ []) rest ∙ ap (λ (l : List ℕ). fieldText kind img (length w) ++ l) (field-parts .1)
             ∙ field-words kind w bytes img field-used (rw (← field-parts .0) at b);
+        small = λ s. rw (← field-parts .0) (small-append w vs s (field-small kind bytes field-used));
       }
 
 -- ---- one part after the other
@@ -162,6 +160,56 @@ fields-told kind (suc n) end w bytes w′ rest e =
     let p = then-told _ _ w′ rest e in
     told-as _ _ (omega (arith, suc-mul n (widthOf kind))) (λ img b. sym (append-assoc (fieldText kind img (length w)) (after n end ∷ []) (fieldsText kind n end img (length w + widthOf kind))))
     (told-two (field-told kind (after n end) w bytes (p .w₁) (p .r₁) (p .one)) (fields-told kind n end (p .w₁) (p .r₁) w′ rest (p .two)))
+
+-- ---- cells
+code-told : (w bytes w′ rest : List ℕ) → readCode w bytes ≡ took w′ rest
+    → (getD w′ (length w) 0 ≡ 0 → ⊥) × Told 1 (fieldText Number) w bytes w′ rest
+unfolding readField wordsOf
+code-told w bytes w′ rest e =
+    let n = readNumber greatestWord bytes in
+    let v : n .value ≡ 0 → ⊥ = λ z. not-wrong w′ rest (sym (code-none w bytes n refl z) ∙ e) in
+    let u : n .used ≡ 0 → ⊥ = λ z. v (number-unread greatestWord bytes z) in
+    let q : took (w ++ (n .value ∷ [])) (drop (n .used) bytes) ≡ took w′ rest = sym (code-some w bytes n refl v) ∙ e in
+    let s : (w ++ (n .value ∷ [])) ≡ w′ = cc in
+    let t : drop (n .used) bytes ≡ rest = cc in (
+      λ z. v (sym (word-here w′ w (n .value ∷ []) (omega arith) (rw (← s) (take-length (w ++ (n .value ∷ []))))) ∙ z),
+      record {
+        long = rw (← s) (length-append w (n .value ∷ []));
+        front = rw (← s) (take-append-seam w (n .value ∷ []));
+        stood = λ img b. rw (← t) (field-words Number w bytes img u (rw (← s) at b));
+        small = λ o. rw (← s) (small-append w (n .value ∷ []) o (field-small Number bytes u));
+      },
+    )
+
+cell-told : (first : Bool) (column : ℕ) (w bytes w′ rest : List ℕ) → readCell first column w bytes ≡ took w′ rest
+    → Then (expect (columnText first column) w bytes) readCode w′ rest
+unfolding readCell
+cell-told first column w bytes w′ rest e = then-told _ _ w′ rest e
+
+pub cells-told : (n : ℕ) (first : Bool) (column : ℕ) (w bytes w′ rest : List ℕ) → readCells first n column w bytes ≡ took w′ rest → Told n (cellsText first n column) w bytes w′ rest
+unfolding readCells cellsText
+cells-told zero first column w bytes w′ rest e = told-name (newline ∷ []) w bytes w′ rest e
+cells-told (suc n) first column w bytes w′ rest e = go (λ f u b. cells-told n f (column + 1) u b w′ rest) (readCell first column w bytes) refl
+  where
+    go : ((f : Bool) (u b : List ℕ) → readCells f n (column + 1) u b ≡ took w′ rest → Told n (cellsText f n (column + 1)) u b w′ rest)
+        → (x : Line) → readCell first column w bytes ≡ x → Told (suc n) (cellsText first (suc n) column) w bytes w′ rest
+    go ih wrong p =
+        let t = ih first (w ++ (0 ∷ [])) bytes (sym (cells-none first n column w bytes p) ∙ e) in
+        told-as (suc n) (cellsText first (suc n) column) (omega arith)
+        (λ img o. text-none first n column img (length w) (word-here img w (0 ∷ []) (omega arith) (begins-back img (w ++ (0 ∷ [])) w′ (omega (arith, t .long)) (t .front) o)))
+        (told-two (told-words w (0 ∷ []) bytes (small-cons 0 [] (omega arith) small-none)) t)
+    go ih (took v r) p =
+        let q = cell-told first column w bytes v r p in
+        let s = expect-told (columnText first column) w bytes (q .w₁) (q .r₁) (q .one) .0 in
+        let c = code-told (q .w₁) (q .r₁) v r (q .two) in
+        let t = ih false v r (sym (cells-some first n column w bytes v r p) ∙ e) in
+        let l : length w < length v = omega (arith, c .1 .long, ap length s) in
+        told-as (suc n) (cellsText first (suc n) column) (omega arith)
+        (λ img o.
+        let i : Begins img v = begins-back img v w′ (omega (arith, t .long)) (t .front) o in
+        let g : getD img (length w) 0 ≡ getD v (length w) 0 = sym (getD-take (length v) img (length w) 0 l) ∙ ap (λ (x : List ℕ). getD x (length w) 0) i in
+        rw (add-zero (length w)) (text-some first n column img (length w) (λ z. c .0 (rw (← s) (sym g ∙ z)))))
+        (told-two (told-name (columnText first column) w bytes (q .w₁) (q .r₁) (q .one)) (told-two (c .1) t))
 
 -- ---- a production
 zeros-length : (n : ℕ) → length (zeros n) ≡ n
@@ -191,7 +239,7 @@ symbols-told w bytes w′ rest e = go (leb (readNumber greatestWord bytes .value
         let v : (w ++ (n ∷ [])) ≡ p .w₁ = expect-told (after n newline ∷ []) _ _ (p .w₁) (p .r₁) (p .one) .0 in
         let a = field-told Number (after n newline) w bytes (p .w₁) (p .r₁) (field-then Number (after n newline) w bytes (readNumber greatestWord bytes) refl used ∙ p .one) in
         let b = fields-told Number n newline (p .w₁) (p .r₁) (q .w₁) (q .r₁) (q .one) in
-        let c : Told (length (zeros (14 - n))) (λ img i. []) (q .w₁) (q .r₁) w′ rest = told-same w′ rest s t (told-words (q .w₁) (zeros (14 - n)) (q .r₁)) in
+        let c : Told (length (zeros (14 - n))) (λ img i. []) (q .w₁) (q .r₁) w′ rest = told-same w′ rest s t (told-words (q .w₁) (zeros (14 - n)) (q .r₁) (small-zeros (14 - n))) in
         let bc = told-two b c in
         told-as 15 symbolsText (omega (arith, zeros-length (14 - n)))
         (λ img o.
@@ -215,6 +263,7 @@ group-text img i = refl
 row-told : (row : Row) (w bytes w′ rest : List ℕ) → readRow row w bytes ≡ took w′ rest → Told (rowWidth row) (rowText row) w bytes w′ rest
 unfolding readRow rowText rowWidth
 row-told (Numbers n) w bytes w′ rest e = told-as _ _ (omega arith) (λ img b. refl) (fields-told Number n newline w bytes w′ rest e)
+row-told (Cells n) w bytes w′ rest e = cells-told n true 0 w bytes w′ rest e
 row-told (Sets n) w bytes w′ rest e = fields-told Set n newline w bytes w′ rest e
 row-told Production w bytes w′ rest e =
     let p = then-told _ _ w′ rest e in
@@ -281,23 +330,25 @@ limited-same u v w rest e = go (each (sizeRule u) 8 1) refl
     go Good g = let z : took u v ≡ took w rest = simp (limited, g) at e in (cc, cc)
     go (Wrong p) g = absurd (not-wrong w rest (simp (limited, g) at e))
 
-pub record Head (text w rest : List ℕ) : Type 0 where
+pub record Head (form : Form) (text w rest : List ℕ) : Type 0 where
   pub long : length w ≡ 9
-  pub stood : (img : List ℕ) → Begins img w → packLine ++ (linesText (sizes .name) (sizes .row) (sizes .lines) img 1 ++ rest) ≡ text
+  pub small : Small w
+  pub stood : (img : List ℕ) → Begins img w → packLine form ++ (linesText (sizes .name) (sizes .row) (sizes .lines) img 1 ++ rest) ≡ text
 
-head-told : (text w rest : List ℕ) → readHead text ≡ all w rest → Head text w rest
+head-told : (form : Form) (text w rest : List ℕ) → readHead form text ≡ all w rest → Head form text w rest
 unfolding readHead sizes rowWidth linesText
-head-told text w rest e =
+head-told form text w rest e =
     let p = then-lines _ _ w rest e in
-    let a = expect-told packLine (1 ∷ []) text (p .w₁) (p .r₁) (as-line text _ (p .w₁) (p .r₁) (p .one)) in
+    let a = expect-told (packLine form) (1 ∷ []) text (p .w₁) (p .r₁) (as-line text _ (p .w₁) (p .r₁) (p .one)) in
     let q = then-told _ _ w rest (as-line (p .r₁) _ w rest (p .two)) in
     let s = limited-same (q .w₁) (q .r₁) w rest (q .two) in
     let t = told-same w rest (s .0) (s .1) (line-told (sizes .name) (Numbers 8) (p .w₁) (p .r₁) (q .w₁) (q .r₁) (q .one)) in
     let n : length (p .w₁) ≡ 1 = ap length (sym (a .0)) in record {
       long = omega (arith, t .long, n);
+      small = t .small (rw (← a .0) (small-cons 1 [] (omega arith) small-none));
       stood = λ img b.
           let c = rw n at (t .stood img b) in
-          ap (λ (l : List ℕ). packLine ++ l) (ap (λ (l : List ℕ). l ++ rest) (append-nil (sizes .name ++ rowText (Numbers 8) img 1)) ∙ c) ∙ a .1;
+          ap (λ (l : List ℕ). packLine form ++ l) (ap (λ (l : List ℕ). l ++ rest) (append-nil (sizes .name ++ rowText (Numbers 8) img 1)) ∙ c) ∙ a .1;
     }
 
 -- ---- the whole: the text of what was read is the text that it was read from.
@@ -306,16 +357,22 @@ unfolding ended
 ended-told w [] words e = (cc, refl)
 ended-told w (x ∷ b) words e = absurd (not-from (x ∷ b) words [] e)
 
-pub text-back : (text words : List ℕ) → readAll text ≡ all words [] → textOf words ≡ text
-unfolding readAll textOf
-text-back text words e =
+back : (form : Form) (text words : List ℕ) → readIn form text ≡ all words [] → (textOf form words ≡ text) × Small words
+unfolding readIn textOf
+back form text words e =
     let p = then-lines _ _ words [] e in
     let q = then-lines _ _ (p .w₁) (p .r₁) (p .one) in
     let d = ended-told (p .w₁) (p .r₁) words (p .two) in
-    let h = head-told text (q .w₁) (q .r₁) (q .one) in
-    let t = told-same words [] (d .0) (d .1) (tables-told (tablesOf (q .w₁)) (q .w₁) (q .r₁) (p .w₁) (p .r₁) (q .two)) in
+    let h = head-told form text (q .w₁) (q .r₁) (q .one) in
+    let t = told-same words [] (d .0) (d .1) (tables-told (tablesOf form (q .w₁)) (q .w₁) (q .r₁) (p .w₁) (p .r₁) (q .two)) in
     let b = take-length words in
     let f : take 9 words ≡ q .w₁ = rw (h .long) at (t .front) in
-    let s : tablesOf (q .w₁) ≡ tablesOf words = ap tablesOf (sym f) ∙ tables-take words 9 (omega arith) in
-    let u : tablesText (tablesOf words) words layoutAt ≡ q .r₁ = sym (append-nil _) ∙ (rw (h .long, s) at (t .stood words b)) in
-    ap (λ (l : List ℕ). packLine ++ (linesText (sizes .name) (sizes .row) (sizes .lines) words 1 ++ l)) u ∙ h .stood words (t .front)
+    let s : tablesOf form (q .w₁) ≡ tablesOf form words = ap (tablesOf form) (sym f) ∙ tables-take form words 9 (omega arith) in
+    let u : tablesText (tablesOf form words) words layoutAt ≡ q .r₁ = sym (append-nil _) ∙ (rw (h .long, s) at (t .stood words b)) in
+    (ap (λ (l : List ℕ). packLine form ++ (linesText (sizes .name) (sizes .row) (sizes .lines) words 1 ++ l)) u ∙ h .stood words (t .front), t .small (h .small))
+
+pub text-back : (form : Form) (text words : List ℕ) → readIn form text ≡ all words [] → textOf form words ≡ text
+text-back form text words e = back form text words e .0
+
+pub text-small : (form : Form) (text words : List ℕ) → readIn form text ≡ all words [] → Small words
+text-small form text words e = back form text words e .1

@@ -3,4 +3,5 @@ pub mod Decimal
 pub mod Fields
 pub mod Form
 pub mod Reader
+pub mod Reform
 pub mod Writer

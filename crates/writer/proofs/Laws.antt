@@ -1,6 +1,7 @@
 -- The writer's parts: two writes one after the other are one, the room that each leaves, the turns of the loops, how many bytes they have,
 -- and what is given and left.
 use mathlib.Core.Path.{_≡_, refl, ap, _∙_}
+use mathlib.Core.Bool.{true}
 use mathlib.Core.List.{List, [], _∷_, _++_}
 use Prim.Native.Nat.{ℕ, zero, suc, _+_, _*_, _-_, _/_, _%_, _<_, _≤_}
 use native.Mathlib.Nat.{add-zero, suc-mul, zero-add}
@@ -17,14 +18,16 @@ use Rattle.pack.specs.Image.{layoutAt}
 use Rattle.pack.specs.Laid.{Sized}
 use Rattle.numbers.specs.declared.Verdict.the-variants.{Good, Wrong}
 use Rattle.shape.specs.Shape.{shape}
+use Rattle.text.specs.declared.Form.{Form}
+use Rattle.text.specs.declared.Form.the-variants.{One, Two}
 use Rattle.text.specs.declared.Kind.{Kind}
 use Rattle.text.specs.declared.Kind.the-variants.{Number, Set}
 use Rattle.text.specs.declared.Row.{Row}
-use Rattle.text.specs.declared.Row.the-variants.{Numbers, Sets, Production, Group}
+use Rattle.text.specs.declared.Row.the-variants.{Numbers, Cells, Sets, Production, Group}
 use Rattle.text.specs.Decimal.{decimal}
 use Rattle.text.specs.Fields.{hexOf, hexWord, fieldText, widthOf}
 use Rattle.text.specs.Form.{newline, comma, after, rowWidth, packLine, sizes, tablesOf, tableAt}
-use Rattle.text.specs.Writer.{fieldsText, rowText, linesText, tablesText, textOf, writeGood, write}
+use Rattle.text.specs.Writer.{fieldsText, cellsText, rowText, linesText, tablesText, textOf, writeGood, write}
 use Rattle.text.proofs.Decimal.{decimal-one, decimal-more}
 use Rattle.text.proofs.Tables.{tablesFrom, tables-on, tables-end}
 use Rattle.writer.specs.Steps.{Room, Wrote, lead, tableText}
@@ -247,6 +250,10 @@ module _ (row : Row) (img : List ℕ) (i : ℕ) where
   unfolding rowText
   numbers-row n e = rw e
 
+  pub cells-row : (n : ℕ) → row ≡ Cells n → rowText row img i ≡ cellsText true n 0 img i
+  unfolding rowText
+  cells-row n e = rw e
+
   pub sets-row : (n : ℕ) → row ≡ Sets n → rowText row img i ≡ fieldsText Set n newline img i
   unfolding rowText
   sets-row n e = rw e
@@ -300,94 +307,95 @@ one-more zero w z = absurd (z refl)
 one-more (suc left) w z = rw (sub-one (suc left)) (suc-mul left w)
 
 -- No table has more lines than there are parse states.
-pub lines-fit : (img : List ℕ) → Sized img → (i : ℕ) → tableAt img i .lines ≤ 1000
+pub lines-fit : (form : Form) (img : List ℕ) → Sized img → (i : ℕ) → tableAt form img i .lines ≤ 1000
 unfolding tablesOf sizes
-lines-fit img s zero = omega arith
-lines-fit img s (suc zero) = omega (arith, s .t-most)
-lines-fit img s (suc (suc zero)) = omega (arith, s .p-most)
-lines-fit img s (suc (suc (suc zero))) = omega (arith, s .s-most)
-lines-fit img s (suc (suc (suc (suc zero)))) = omega (arith, s .s-most)
-lines-fit img s (suc (suc (suc (suc (suc zero))))) = omega (arith, s .r-most)
-lines-fit img s (suc (suc (suc (suc (suc (suc zero)))))) = omega (arith, s .q-most)
-lines-fit img s (suc (suc (suc (suc (suc (suc (suc zero))))))) = omega (arith, s .q-most)
-lines-fit img s (suc (suc (suc (suc (suc (suc (suc (suc zero)))))))) = omega (arith, s .g-most)
-lines-fit img s (suc (suc (suc (suc (suc (suc (suc (suc (suc i))))))))) = omega arith
+lines-fit form img s zero = omega arith
+lines-fit form img s (suc zero) = omega (arith, s .t-most)
+lines-fit form img s (suc (suc zero)) = omega (arith, s .p-most)
+lines-fit form img s (suc (suc (suc zero))) = omega (arith, s .s-most)
+lines-fit form img s (suc (suc (suc (suc zero)))) = omega (arith, s .s-most)
+lines-fit form img s (suc (suc (suc (suc (suc zero))))) = omega (arith, s .r-most)
+lines-fit form img s (suc (suc (suc (suc (suc (suc zero)))))) = omega (arith, s .q-most)
+lines-fit form img s (suc (suc (suc (suc (suc (suc (suc zero))))))) = omega (arith, s .q-most)
+lines-fit form img s (suc (suc (suc (suc (suc (suc (suc (suc zero)))))))) = omega (arith, s .g-most)
+lines-fit form img s (suc (suc (suc (suc (suc (suc (suc (suc (suc i))))))))) = omega arith
 
-module _ (img : List ℕ) (i from : ℕ) where
-  tables-are : i < 9 → tablesText (tablesFrom img i) img from ≡ tableText img i from ++ tablesText (tablesFrom img (i + 1)) img (from + tableAt img i .lines * rowWidth (tableAt img i .row))
+module _ (form : Form) (img : List ℕ) (i from : ℕ) where
+  tables-are : i < 9 → tablesText (tablesFrom form img i) img from ≡ tableText form img i from ++ tablesText (tablesFrom form img (i + 1)) img (from + tableAt form img i .lines * rowWidth (tableAt form img i .row))
   unfolding tablesText
-  tables-are h = rw (tables-on img i h)
+  tables-are h = rw (tables-on form img i h)
 
-  module _ (h : i < 9) {out : List ℕ} {at : ℕ} (k : Room (tablesText (tablesFrom img i) img from) out at) where
-    pub table-room : Room (tableText img i from) out at
+  module _ (h : i < 9) {out : List ℕ} {at : ℕ} (k : Room (tablesText (tablesFrom form img i) img from) out at) where
+    pub table-room : Room (tableText form img i from) out at
     table-room = room-front _ _ (room-as _ (tables-are h) k)
 
-    pub tables-room : {w : ℕ} → w ≡ tableAt img i .lines * rowWidth (tableAt img i .row) → {out₁ : List ℕ} {r₁ : ℕ} → Wrote (tableText img i from) out at out₁ r₁
-        → Room (tablesText (tablesFrom img (i + 1)) img (from + w)) out₁ r₁
+    pub tables-room : {w : ℕ} → w ≡ tableAt form img i .lines * rowWidth (tableAt form img i .row) → {out₁ : List ℕ} {r₁ : ℕ} → Wrote (tableText form img i from) out at out₁ r₁
+        → Room (tablesText (tablesFrom form img (i + 1)) img (from + w)) out₁ r₁
     tables-room e p = rw e (room-rest _ _ (room-as _ (tables-are h) k) p)
 
-  pub table-on : {w : ℕ} {out out₁ out₂ : List ℕ} {at r₁ r₂ : ℕ} → i < 9 → w ≡ tableAt img i .lines * rowWidth (tableAt img i .row)
-      → Wrote (tableText img i from) out at out₁ r₁
-      → Wrote (tablesText (tablesFrom img (i + 1)) img (from + w)) out₁ r₁ out₂ r₂ → Wrote (tablesText (tablesFrom img i) img from) out at out₂ r₂
+  pub table-on : {w : ℕ} {out out₁ out₂ : List ℕ} {at r₁ r₂ : ℕ} → i < 9 → w ≡ tableAt form img i .lines * rowWidth (tableAt form img i .row)
+      → Wrote (tableText form img i from) out at out₁ r₁
+      → Wrote (tablesText (tablesFrom form img (i + 1)) img (from + w)) out₁ r₁ out₂ r₂ → Wrote (tablesText (tablesFrom form img i) img from) out at out₂ r₂
   table-on h e p q = wrote-as _ (tables-are h) (wrote-two _ _ p (rw e at q))
 
-  pub tables-last : (out : List ℕ) (at : ℕ) → 9 ≤ i → Wrote (tablesText (tablesFrom img i) img from) out at out at
+  pub tables-last : (out : List ℕ) (at : ℕ) → 9 ≤ i → Wrote (tablesText (tablesFrom form img i) img from) out at out at
   unfolding tablesText
-  tables-last out at h = rw (tables-end img i h) (wrote-none out at)
+  tables-last out at h = rw (tables-end form img i h) (wrote-none out at)
 
-  pub tables-none : 9 ≤ i → length (tablesText (tablesFrom img i) img from) ≡ 0
+  pub tables-none : 9 ≤ i → length (tablesText (tablesFrom form img i) img from) ≡ 0
   unfolding tablesText
-  tables-none h = rw (tables-end img i h)
+  tables-none h = rw (tables-end form img i h)
 
   pub tables-size : i < 9
-      → length (tablesText (tablesFrom img i) img from) ≡ length (tableText img i from) + length (tablesText (tablesFrom img (i + 1)) img (from + tableAt img i .lines * rowWidth (tableAt img i .row)))
-  tables-size h = ap length (tables-are h) ∙ length-append (tableText img i from) _
+      → length (tablesText (tablesFrom form img i) img from) ≡ length (tableText form img i from) + length (tablesText (tablesFrom form img (i + 1)) img (from + tableAt form img i .lines * rowWidth (tableAt form img i .row)))
+  tables-size h = ap length (tables-are h) ∙ length-append (tableText form img i from) _
 
 -- ---- the whole
 abbrev pub sizesText : List ℕ → List ℕ
 sizesText img = linesText (sizes .name) (sizes .row) (sizes .lines) img 1
 
-pub text-is : (img : List ℕ) → textOf img ≡ packLine ++ (sizesText img ++ tablesText (tablesOf img) img layoutAt)
+pub text-is : (form : Form) (img : List ℕ) → textOf form img ≡ packLine form ++ (sizesText img ++ tablesText (tablesOf form img) img layoutAt)
 unfolding textOf
-text-is img = refl
+text-is form img = refl
 
-pack-seven : length packLine ≡ 7
+pack-seven : (form : Form) → length (packLine form) ≡ 7
 unfolding packLine
-pack-seven = refl
+pack-seven One = refl
+pack-seven Two = refl
 
-pub text-length : (img : List ℕ) → length (textOf img) ≡ 7 + length (sizesText img) + length (tablesText (tablesOf img) img layoutAt)
-text-length img =
-    let tables = tablesText (tablesOf img) img layoutAt in
-    let whole = ap length (text-is img) ∙ length-append packLine (sizesText img ++ tables) in
-    omega (arith, whole, pack-seven, length-append (sizesText img) tables)
+pub text-length : (form : Form) (img : List ℕ) → length (textOf form img) ≡ 7 + length (sizesText img) + length (tablesText (tablesOf form img) img layoutAt)
+text-length form img =
+    let tables = tablesText (tablesOf form img) img layoutAt in
+    let whole = ap length (text-is form img) ∙ length-append (packLine form) (sizesText img ++ tables) in
+    omega (arith, whole, pack-seven form, length-append (sizesText img) tables)
 
 -- ---- what is given and left
-module _ (img b : List ℕ) (room : ℕ) {size : ℕ} (e : size ≡ length (textOf img)) where
-  pub text-long : longestText < size → Delivers (writeGood img room) b b (answer textTooLong 0)
+module _ (form : Form) (img b : List ℕ) (room : ℕ) {size : ℕ} (e : size ≡ length (textOf form img)) where
+  pub text-long : longestText < size → Delivers (writeGood form img room) b b (answer textTooLong 0)
   unfolding writeGood
   text-long h =
-      let z : longestText < length (textOf img) = omega (arith, e) in
+      let z : longestText < length (textOf form img) = omega (arith, e) in
       record { given = simp (writeGood, lt-ltb _ _ z); left = simp (writeGood, lt-ltb _ _ z) }
 
   module _ (h : size ≤ longestText) where
-    short : length (textOf img) ≤ longestText
+    short : length (textOf form img) ≤ longestText
     short = omega (arith, e)
 
-    pub text-small : room < size → Delivers (writeGood img room) b b (answer roomTooSmall size)
+    pub text-small : room < size → Delivers (writeGood form img room) b b (answer roomTooSmall size)
     unfolding writeGood
-    text-small l = simp (writeGood, le-ltb _ _ short) (rw e (deliver-small (textOf img) room b (omega (arith, e))))
+    text-small l = simp (writeGood, le-ltb _ _ short) (rw e (deliver-small (textOf form img) room b (omega (arith, e))))
 
-    pub text-done : (b′ : List ℕ) (end : ℕ) → room ≡ length b → size ≤ room → Wrote (textOf img) b 0 b′ end → Delivers (writeGood img room) b b′ (answer done end)
+    pub text-done : (b′ : List ℕ) (end : ℕ) → room ≡ length b → size ≤ room → Wrote (textOf form img) b 0 b′ end → Delivers (writeGood form img room) b b′ (answer done end)
     unfolding writeGood
     text-done b′ end f l q =
-        let y = rw (sets-eq (textOf img) b 0 (omega (arith, e)), zero-add (length (textOf img))) at (q .holds) in
-        simp (writeGood, le-ltb _ _ short) (deliver-done (textOf img) room b b′ end (omega (arith, e)) (omega (arith, q .end)) y)
+        let y = rw (sets-eq (textOf form img) b 0 (omega (arith, e)), zero-add (length (textOf form img))) at (q .holds) in
+        simp (writeGood, le-ltb _ _ short) (deliver-done (textOf form img) room b b′ end (omega (arith, e)) (omega (arith, q .end)) y)
 
-module _ (img b : List ℕ) where
-  pub write-wrong : (place : ℕ) → shape img ≡ Wrong place → (answer wrongShape place ≡ write img b .answer) × (b ≡ bufferAfter b (write img b))
+module _ (form : Form) (img b : List ℕ) where
+  pub write-wrong : (place : ℕ) → shape img ≡ Wrong place → (answer wrongShape place ≡ write form img b .answer) × (b ≡ bufferAfter b (write form img b))
   unfolding write
   write-wrong place e = (simp (write, e), simp (write, e))
 
-  pub write-done : (b′ : List ℕ) (r : Answer) → shape img ≡ Good → Delivers (writeGood img (length b)) b b′ r → (r ≡ write img b .answer) × (b′ ≡ bufferAfter b (write img b))
+  pub write-done : (b′ : List ℕ) (r : Answer) → shape img ≡ Good → Delivers (writeGood form img (length b)) b b′ r → (r ≡ write form img b .answer) × (b′ ≡ bufferAfter b (write form img b))
   unfolding write
   write-done b′ r e q = (simp (write, e) (q .given), simp (write, e) (q .left))

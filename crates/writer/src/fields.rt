@@ -51,7 +51,7 @@ pub fn word(img: &[u16], i: usize) -> usize
 }
 
 // One byte.
-fn put(out: &mut [u8], at: usize, b: u8) -> usize
+pub fn put(out: &mut [u8], at: usize, b: u8) -> usize
     requires { ⌜ Room (b ∷ []) (now out) at ⌝ }
     ensures { λ r. ⌜ Wrote (b ∷ []) (now (out .entry)) at (now (out .exit)) r ⌝ }
 {
@@ -96,7 +96,7 @@ fn write_lead(out: &mut [u8], at: usize, q: usize) -> usize
 }
 
 // A number in decimal. Most numbers of a pack have one digit.
-fn write_decimal(out: &mut [u8], at: usize, n: usize) -> usize
+pub fn write_decimal(out: &mut [u8], at: usize, n: usize) -> usize
     requires { ⌜ (n < 65536) × (Room (decimal n) (now out) at) ⌝ }
     ensures { λ r. ⌜ Wrote (decimal n) (now (out .entry)) at (now (out .exit)) r ⌝ }
 {
@@ -197,7 +197,7 @@ fn lead_size(q: usize) -> usize
 }
 
 // The digits of a number: a sum of tests, without a branch.
-fn number_size(n: usize) -> usize
+pub fn number_size(n: usize) -> usize
     requires { ⌜ n < 65536 ⌝ }
     ensures { λ r. ⌜ (r ≡ length (decimal n)) × (r ≤ 5) ⌝ }
 {

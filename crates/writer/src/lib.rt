@@ -1,21 +1,24 @@
-// Image to pack text.
+// Image to pack text, in one form or the other.
 use numbers::Answer;
 use numbers::Verdict;
+use text::Form;
 ghost use mathlib.Core.Path.{_≡_};
 ghost use lib.ListN.{length};
 ghost use Rattle.numbers.specs.Front.{Delivers, bufferAfter};
 ghost use Rattle.pack.specs.Laid.{Sized};
+ghost use Rattle.text.specs.declared.Form.the-variants.{One, Two};
 ghost use Rattle.text.specs.Writer.{writeGood, write};
 
+mod cells; // cells.rt: the cells of a row in form 2
 mod fields; // fields.rt: bytes, names, numbers and sets
 mod lines; // lines.rt: rows, lines, tables and the whole text
 
 // The text of an image of good shape: its length first, by a walk that writes nothing, and then its bytes.
-fn write_good(img: &[u16], buffer: &mut [u8]) -> Answer
+pub fn write_good(img: &[u16], buffer: &mut [u8], form: Form) -> Answer
     requires { ⌜ Sized (now img) ⌝ }
-    ensures { λ r. ⌜ Delivers (writeGood (now (img .entry)) (length (now (buffer .entry)))) (now (buffer .entry)) (now (buffer .exit)) r ⌝ }
+    ensures { λ r. ⌜ Delivers (writeGood form (now (img .entry)) (length (now (buffer .entry)))) (now (buffer .entry)) (now (buffer .exit)) r ⌝ }
 {
-    let size = lines::text_size(img);
+    let size = lines::text_size(img, form);
     if numbers::LONGEST_TEXT < size {
         return Answer {
             code: numbers::TEXT_TOO_LONG,
@@ -28,17 +31,17 @@ fn write_good(img: &[u16], buffer: &mut [u8]) -> Answer
             number: size,
         };
     }
-    let end = lines::write_text(buffer, img);
+    let end = lines::write_text(buffer, img, form);
     Answer {
         code: numbers::DONE,
         number: end,
     }
 }
 
-// Writes an image as pack text. Codes 4, 2 and 3 leave the buffer untouched; done puts the bytes of the text at its front.
-pub fn write(img: &[u16], buffer: &mut [u8]) -> Answer
-    ensures { λ r. ⌜ r ≡ write (now (img .entry)) (now (buffer .entry)) .answer ⌝ }
-    ensures { λ r. ⌜ now (buffer .exit) ≡ bufferAfter (now (buffer .entry)) (write (now (img .entry)) (now (buffer .entry))) ⌝ }
+// An image in this form.
+fn write_in(img: &[u16], buffer: &mut [u8], form: Form) -> Answer
+    ensures { λ r. ⌜ r ≡ write form (now (img .entry)) (now (buffer .entry)) .answer ⌝ }
+    ensures { λ r. ⌜ now (buffer .exit) ≡ bufferAfter (now (buffer .entry)) (write form (now (img .entry)) (now (buffer .entry))) ⌝ }
 {
     let verdict = shape::shape(img);
     match verdict {
@@ -46,6 +49,22 @@ pub fn write(img: &[u16], buffer: &mut [u8]) -> Answer
             code: numbers::WRONG_SHAPE,
             number: place,
         },
-        Verdict::Good => write_good(img, buffer),
+        Verdict::Good => write_good(img, buffer, form),
     }
+}
+
+// Writes an image as pack text of form 1. Codes 4, 2 and 3 leave the buffer untouched; done puts the bytes of the text at its front.
+pub fn write(img: &[u16], buffer: &mut [u8]) -> Answer
+    ensures { λ r. ⌜ r ≡ write One (now (img .entry)) (now (buffer .entry)) .answer ⌝ }
+    ensures { λ r. ⌜ now (buffer .exit) ≡ bufferAfter (now (buffer .entry)) (write One (now (img .entry)) (now (buffer .entry))) ⌝ }
+{
+    write_in(img, buffer, Form::One)
+}
+
+// Writes an image as pack text of form 2, in the same way.
+pub fn write2(img: &[u16], buffer: &mut [u8]) -> Answer
+    ensures { λ r. ⌜ r ≡ write Two (now (img .entry)) (now (buffer .entry)) .answer ⌝ }
+    ensures { λ r. ⌜ now (buffer .exit) ≡ bufferAfter (now (buffer .entry)) (write Two (now (img .entry)) (now (buffer .entry))) ⌝ }
+{
+    write_in(img, buffer, Form::Two)
 }

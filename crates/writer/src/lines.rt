@@ -1,4 +1,6 @@
 // Writing the rows, the lines and the tables of an image, as the fields are written; and how many bytes they have, without writing any.
+use crate::cells::cells_size;
+use crate::cells::write_cells;
 use crate::fields::SET_BYTES;
 use crate::fields::numbers_size;
 use crate::fields::word;
@@ -6,6 +8,7 @@ use crate::fields::write_fields;
 use crate::fields::write_name;
 use pack::image::SET_WORDS;
 use text::COMMA;
+use text::Form;
 use text::Kind;
 use text::NEWLINE;
 use text::Row;
@@ -15,7 +18,7 @@ ghost use Prim.Native.Nat.{ℕ, _+_, _*_, _<_, _≤_};
 ghost use lib.ListN.{length};
 ghost use Rattle.pack.specs.Image.{layoutAt, largestImage};
 ghost use Rattle.pack.specs.Laid.{Sized};
-ghost use Rattle.text.specs.Form.{rowWidth, tableAt, tablesOf};
+ghost use Rattle.text.specs.Form.{packLine, rowWidth, tableAt, tablesOf};
 ghost use Rattle.text.specs.Writer.{rowText, linesText, tablesText, textOf};
 ghost use Rattle.writer.specs.Steps.{Room, Wrote, tableText, longLine};
 
@@ -26,6 +29,7 @@ fn write_row(out: &mut [u8], at: usize, img: &[u16], i: usize, row: Row) -> usiz
 {
     match row {
         Row::Numbers(n) => write_fields(out, at, img, i, Kind::Number, n, NEWLINE),
+        Row::Cells(n) => write_cells(out, at, img, i, n),
         Row::Sets(n) => write_fields(out, at, img, i, Kind::Set, n, NEWLINE),
         Row::Production => write_fields(
             out,
@@ -40,19 +44,6 @@ fn write_row(out: &mut [u8], at: usize, img: &[u16], i: usize, row: Row) -> usiz
             let to = write_fields(out, at, img, i, Kind::Set, 1, COMMA);
             write_fields(out, to, img, i + SET_WORDS, Kind::Number, 1, NEWLINE)
         }
-    }
-}
-
-// The words of a row.
-fn row_width(row: Row) -> usize
-    requires { ⌜ rowWidth row ≤ largestImage ⌝ }
-    ensures { λ r. ⌜ r ≡ rowWidth row ⌝ }
-{
-    match row {
-        Row::Numbers(n) => n,
-        Row::Sets(n) => n * SET_WORDS,
-        Row::Production => pack::image::PRODUCTION_WORDS,
-        Row::Group => pack::image::GROUP_WORDS,
     }
 }
 
@@ -84,23 +75,23 @@ fn write_lines(
     while left != 0 {
         left -= 1;
         to = write_line(out, to, img, from, name, row);
-        from += row_width(row);
+        from += text::row_width(row);
     }
     to
 }
 
 // The words of table i.
-fn table_words(img: &[u16], i: usize) -> usize
-    requires { ⌜ (Sized (now img)) × ((i < 9) × (tableAt (now img) i .lines * rowWidth (tableAt (now img) i .row) ≤ largestImage)) ⌝ }
-    ensures { λ r. ⌜ r ≡ tableAt (now (img .entry)) i .lines * rowWidth (tableAt (now (img .entry)) i .row) ⌝ }
+fn table_words(img: &[u16], i: usize, form: Form) -> usize
+    requires { ⌜ (Sized (now img)) × ((i < 9) × (tableAt form (now img) i .lines * rowWidth (tableAt form (now img) i .row) ≤ largestImage)) ⌝ }
+    ensures { λ r. ⌜ r ≡ tableAt form (now (img .entry)) i .lines * rowWidth (tableAt form (now (img .entry)) i .row) ⌝ }
 {
-    text::lines_of(img, i) * row_width(text::row_of(img, i))
+    text::lines_of(img, i) * text::row_width(text::row_of(img, i, form))
 }
 
 // Table i, whose words stand from a place of the image on.
-fn write_table(out: &mut [u8], at: usize, img: &[u16], from: usize, i: usize) -> usize
-    requires { ⌜ (Sized (now img)) × ((i < 9) × ((from + tableAt (now img) i .lines * rowWidth (tableAt (now img) i .row) ≤ largestImage) × (Room (tableText (now img) i from) (now out) at))) ⌝ }
-    ensures { λ r. ⌜ Wrote (tableText (now (img .entry)) i from) (now (out .entry)) at (now (out .exit)) r ⌝ }
+fn write_table(out: &mut [u8], at: usize, img: &[u16], from: usize, i: usize, form: Form) -> usize
+    requires { ⌜ (Sized (now img)) × ((i < 9) × ((from + tableAt form (now img) i .lines * rowWidth (tableAt form (now img) i .row) ≤ largestImage) × (Room (tableText form (now img) i from) (now out) at))) ⌝ }
+    ensures { λ r. ⌜ Wrote (tableText form (now (img .entry)) i from) (now (out .entry)) at (now (out .exit)) r ⌝ }
 {
     let mut name = [0u8; text::LONGEST_NAME];
     let size = text::name_of(i, &mut name);
@@ -110,35 +101,46 @@ fn write_table(out: &mut [u8], at: usize, img: &[u16], from: usize, i: usize) ->
         img,
         from,
         &name[..size],
-        text::row_of(img, i),
+        text::row_of(img, i, form),
         text::lines_of(img, i),
     )
 }
 
 // The tables, in the order of their list.
-fn write_tables(out: &mut [u8], at: usize, img: &[u16]) -> usize
-    requires { ⌜ (Sized (now img)) × (Room (tablesText (tablesOf (now img)) (now img) layoutAt) (now out) at) ⌝ }
-    ensures { λ r. ⌜ Wrote (tablesText (tablesOf (now (img .entry))) (now (img .entry)) layoutAt) (now (out .entry)) at (now (out .exit)) r ⌝ }
+fn write_tables(out: &mut [u8], at: usize, img: &[u16], form: Form) -> usize
+    requires { ⌜ (Sized (now img)) × (Room (tablesText (tablesOf form (now img)) (now img) layoutAt) (now out) at) ⌝ }
+    ensures { λ r. ⌜ Wrote (tablesText (tablesOf form (now (img .entry))) (now (img .entry)) layoutAt) (now (out .entry)) at (now (out .exit)) r ⌝ }
 {
     let mut to = at;
     let mut from: usize = pack::image::HEAD_WORDS;
     let mut i: usize = 0;
     while i < text::TABLES {
-        to = write_table(out, to, img, from, i);
-        from += table_words(img, i);
+        to = write_table(out, to, img, from, i, form);
+        from += table_words(img, i, form);
         i += 1;
     }
     to
 }
 
-// The text of an image.
-pub fn write_text(out: &mut [u8], img: &[u16]) -> usize
-    requires { ⌜ (Sized (now img)) × (Room (textOf (now img)) (now out) 0) ⌝ }
-    ensures { λ r. ⌜ Wrote (textOf (now (img .entry))) (now (out .entry)) 0 (now (out .exit)) r ⌝ }
+// The first line of a form.
+fn write_first(out: &mut [u8], at: usize, form: Form) -> usize
+    requires { ⌜ Room (packLine form) (now out) at ⌝ }
+    ensures { λ r. ⌜ Wrote (packLine form) (now (out .entry)) at (now (out .exit)) r ⌝ }
 {
-    let a = write_name(out, 0, b"pack=1\n");
+    match form {
+        Form::One => write_name(out, at, b"pack=1\n"),
+        Form::Two => write_name(out, at, b"pack=2\n"),
+    }
+}
+
+// The text of an image.
+pub fn write_text(out: &mut [u8], img: &[u16], form: Form) -> usize
+    requires { ⌜ (Sized (now img)) × (Room (textOf form (now img)) (now out) 0) ⌝ }
+    ensures { λ r. ⌜ Wrote (textOf form (now (img .entry))) (now (out .entry)) 0 (now (out .exit)) r ⌝ }
+{
+    let a = write_first(out, 0, form);
     let b = write_lines(out, a, img, 1, b"size=", Row::Numbers(8), 1);
-    write_tables(out, b, img)
+    write_tables(out, b, img, form)
 }
 
 // The bytes of what stands behind the `=` of a line.
@@ -148,6 +150,7 @@ fn row_size(img: &[u16], i: usize, row: Row) -> usize
 {
     match row {
         Row::Numbers(n) => numbers_size(img, i, n),
+        Row::Cells(n) => cells_size(img, i, n),
         Row::Sets(n) => n * SET_BYTES,
         Row::Production => numbers_size(img, i, 2 + word(img, i + 1)),
         Row::Group => SET_BYTES + numbers_size(img, i + SET_WORDS, 1),
@@ -165,15 +168,15 @@ fn lines_size(img: &[u16], i: usize, name: usize, row: Row, n: usize) -> usize
     while left != 0 {
         left -= 1;
         sum += name + row_size(img, from, row);
-        from += row_width(row);
+        from += text::row_width(row);
     }
     sum
 }
 
 // The bytes of table i, whose words stand from a place of the image on.
-fn table_size(img: &[u16], from: usize, i: usize) -> usize
-    requires { ⌜ (Sized (now img)) × ((i < 9) × (from + tableAt (now img) i .lines * rowWidth (tableAt (now img) i .row) ≤ largestImage)) ⌝ }
-    ensures { λ r. ⌜ (length (tableText (now (img .entry)) i from) ≡ r) × (r ≤ 1000 * (longLine + 7)) ⌝ }
+fn table_size(img: &[u16], from: usize, i: usize, form: Form) -> usize
+    requires { ⌜ (Sized (now img)) × ((i < 9) × (from + tableAt form (now img) i .lines * rowWidth (tableAt form (now img) i .row) ≤ largestImage)) ⌝ }
+    ensures { λ r. ⌜ (length (tableText form (now (img .entry)) i from) ≡ r) × (r ≤ 1000 * (longLine + 7)) ⌝ }
 {
     let mut name = [0u8; text::LONGEST_NAME];
     let size = text::name_of(i, &mut name);
@@ -181,32 +184,32 @@ fn table_size(img: &[u16], from: usize, i: usize) -> usize
         img,
         from,
         size,
-        text::row_of(img, i),
+        text::row_of(img, i, form),
         text::lines_of(img, i),
     )
 }
 
 // The bytes of the tables.
-fn tables_size(img: &[u16]) -> usize
+fn tables_size(img: &[u16], form: Form) -> usize
     requires { ⌜ Sized (now img) ⌝ }
-    ensures { λ r. ⌜ (length (tablesText (tablesOf (now (img .entry))) (now (img .entry)) layoutAt) ≡ r) × (r ≤ 9000 * (longLine + 7)) ⌝ }
+    ensures { λ r. ⌜ (length (tablesText (tablesOf form (now (img .entry))) (now (img .entry)) layoutAt) ≡ r) × (r ≤ 9000 * (longLine + 7)) ⌝ }
 {
     let mut sum: usize = 0;
     let mut from: usize = pack::image::HEAD_WORDS;
     let mut i: usize = 0;
     while i < text::TABLES {
-        sum += table_size(img, from, i);
-        from += table_words(img, i);
+        sum += table_size(img, from, i, form);
+        from += table_words(img, i, form);
         i += 1;
     }
     sum
 }
 
 // The bytes of the text of an image: 7 for the first line, and 5 for the name of the second.
-pub fn text_size(img: &[u16]) -> usize
+pub fn text_size(img: &[u16], form: Form) -> usize
     requires { ⌜ Sized (now img) ⌝ }
-    ensures { λ r. ⌜ r ≡ length (textOf (now (img .entry))) ⌝ }
+    ensures { λ r. ⌜ r ≡ length (textOf form (now (img .entry))) ⌝ }
 {
     let sizes = lines_size(img, 1, 5, Row::Numbers(8), 1);
-    7 + sizes + tables_size(img)
+    7 + sizes + tables_size(img, form)
 }

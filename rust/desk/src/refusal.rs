@@ -272,10 +272,16 @@ fn stuck(pack: &Pack, names: &Names, text: &[u8], place: usize, state: Option<us
     }
 }
 
+/// Is a pack text in form 2? Its rows of cells leave out those that are 0.
+fn is_form2(text: &[u8]) -> bool {
+    text.starts_with(b"pack=2\n")
+}
+
 /// The kinds of lines of a pack text, in order, and how many there are of each.
-fn lines_of(sizes: Option<Sizes>) -> Vec<(&'static str, usize, &'static str)> {
+fn lines_of(sizes: Option<Sizes>, form2: bool) -> Vec<(&'static str, usize, &'static str)> {
+    let cells = |full: &'static str, sparse: &'static str| if form2 { sparse } else { full };
     let mut lines = vec![
-        ("pack=", 1, "the number of the form, 1"),
+        ("pack=", 1, "the number of the form, 1 or 2"),
         ("size=", 1, "eight sizes within their limits"),
     ];
     if let Some(sizes) = sizes {
@@ -294,12 +300,18 @@ fn lines_of(sizes: Option<Sizes>) -> Vec<(&'static str, usize, &'static str)> {
             (
                 "act=",
                 sizes.states,
-                "a code for each terminal, in each parse state",
+                cells(
+                    "a code for each terminal, in each parse state",
+                    "terminal:code for each code other than 0, terminals rising, in each parse state",
+                ),
             ),
             (
                 "goto=",
                 sizes.states,
-                "a code for each nonterminal, in each parse state",
+                cells(
+                    "a code for each nonterminal, in each parse state",
+                    "nonterminal:code for each code other than 0, nonterminals rising, in each parse state",
+                ),
             ),
             (
                 "class=",
@@ -309,7 +321,10 @@ fn lines_of(sizes: Option<Sizes>) -> Vec<(&'static str, usize, &'static str)> {
             (
                 "move=",
                 sizes.scan_states,
-                "a code for each class, in each scan state",
+                cells(
+                    "a code for each class, in each scan state",
+                    "class:code for each code other than 0, classes rising, in each scan state",
+                ),
             ),
             (
                 "scan=",
@@ -341,7 +356,7 @@ fn sizes_of(text: &[u8]) -> Option<Sizes> {
 fn due(text: &[u8], good: usize) -> String {
     let sizes = if good > 1 { sizes_of(text) } else { None };
     let mut before = 0;
-    for (name, many, what) in lines_of(sizes) {
+    for (name, many, what) in lines_of(sizes, is_form2(text)) {
         if good < before + many {
             let which = if many == 1 {
                 String::new()
@@ -374,19 +389,28 @@ fn field_of(sizes: Sizes, part: Part) -> Option<(usize, usize)> {
         Part::Chosen(group) => ("group=", group, 1),
         Part::End => return None,
     };
-    let kinds = lines_of(Some(sizes));
+    let kinds = lines_of(Some(sizes), false);
     let at = kinds.iter().position(|kind| kind.0 == name)?;
     let before: usize = kinds[..at].iter().map(|kind| kind.1).sum();
     Some((before + row, field))
 }
 
-/// The bytes of a field of a line, as place and length.
+/// The bytes of a field of a line, as place and length. In form 2 the field of a cell is the one of its column.
 fn field_bytes(text: &[u8], line: usize, field: usize) -> Option<(usize, usize)> {
     let lines: Vec<&[u8]> = text.split(|&byte| byte == b'\n').collect();
     let start: usize = lines.get(..line)?.iter().map(|line| line.len() + 1).sum();
     let content = lines.get(line)?;
     let first = content.iter().position(|&byte| byte == b'=')? + 1;
     let fields: Vec<&[u8]> = content[first..].split(|&byte| byte == b',').collect();
+    let cells = [&b"act="[..], b"goto=", b"move="];
+    let field = if is_form2(text) && cells.contains(&&content[..first]) {
+        let column = format!("{field}:");
+        fields
+            .iter()
+            .position(|field| field.starts_with(column.as_bytes()))?
+    } else {
+        field
+    };
     let before: usize = fields
         .get(..field)?
         .iter()

@@ -6,6 +6,7 @@ use std::fs;
 use std::path::Path;
 
 use run::{desk, packs, Run};
+use zhgarelli::Pack;
 
 /// The stored file of a run: the command, what was printed, and the exit status.
 fn page(words: &[&str], run: &Run) -> String {
@@ -311,6 +312,18 @@ fn help_and_wrong_use() {
 /// The small pack with one line changed, and what desk says of it.
 fn changed(name: &str, old: &str, new: &str, words: &[&str]) {
     let text = fs::read_to_string(packs().join("small.pack")).expect("the pack is there");
+    changed_text(name, &text, old, new, words);
+}
+
+/// The same of its text of form 2.
+fn changed_form2(name: &str, old: &str, new: &str, words: &[&str]) {
+    let text = fs::read_to_string(packs().join("small.pack")).expect("the pack is there");
+    let pack = Pack::read(text).expect("the pack is good");
+    let text = String::from_utf8(pack.write_form2().expect("it is short")).expect("text");
+    changed_text(name, &text, old, new, words);
+}
+
+fn changed_text(name: &str, text: &str, old: &str, new: &str, words: &[&str]) {
     assert_eq!(text.matches(old).count(), 1, "{old} stands once");
     let folder = run::folder(name);
     fs::copy(packs().join("small.names"), folder.join("changed.names"))
@@ -373,6 +386,13 @@ fn packs_that_fail() {
     );
     changed("fails-form", "dom=0000000000000002", "dom=2", &["check"]);
     changed("fails-form-line", "class=98,98,1\n", "", &["read", "tax"]);
+    changed_form2("fails-form2", "act=0:3,1:6", "act=1:6,0:3", &["check"]);
+    changed_form2(
+        "fails-form2-shape",
+        "act=0:3,1:6",
+        "act=0:3,1:12",
+        &["check"],
+    );
     changed("stuck", "goto=5", "goto=0", &["read", "tax"]);
 }
 

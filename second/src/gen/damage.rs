@@ -1,4 +1,4 @@
-//! Source 3: damage to images, to the lines of a pack text, and to queries.
+//! Source 3: damage to images, to the lines of a pack text, to the cells of form 2, and to queries.
 
 use super::rng::Rng;
 use crate::image::{
@@ -465,6 +465,274 @@ fn break_fields(rng: &mut Rng, line: &mut Vec<u8>, how: TextBreak) {
         _ => unreachable!("{how:?} breaks more than a field"),
     }
     *line = format!("{name}={}{end}", fields.join(",")).into_bytes();
+}
+
+/// The ways in which the cells of a text of form 2 are broken, and its first line.
+#[derive(Clone, Copy, Debug, PartialEq, Eq, PartialOrd, Ord)]
+pub enum CellBreak {
+    ColumnFalls,
+    ColumnRepeats,
+    ColumnOutside,
+    ZeroCell,
+    LeadingZero,
+    NoCode,
+    NoColumn,
+    NoColon,
+    TwoColons,
+    OtherColon,
+    CommaInFront,
+    CommaBehind,
+    TwoCommas,
+    NumberOver65535,
+    Blank,
+    FullRow,
+    EmptyElsewhere,
+    FirstLine,
+    FormOne,
+}
+
+impl CellBreak {
+    pub const ALL: [CellBreak; 19] = [
+        CellBreak::ColumnFalls,
+        CellBreak::ColumnRepeats,
+        CellBreak::ColumnOutside,
+        CellBreak::ZeroCell,
+        CellBreak::LeadingZero,
+        CellBreak::NoCode,
+        CellBreak::NoColumn,
+        CellBreak::NoColon,
+        CellBreak::TwoColons,
+        CellBreak::OtherColon,
+        CellBreak::CommaInFront,
+        CellBreak::CommaBehind,
+        CellBreak::TwoCommas,
+        CellBreak::NumberOver65535,
+        CellBreak::Blank,
+        CellBreak::FullRow,
+        CellBreak::EmptyElsewhere,
+        CellBreak::FirstLine,
+        CellBreak::FormOne,
+    ];
+}
+
+/// Breaks a good text of form 2 in one of these ways.
+pub fn cells(rng: &mut Rng, good: &[u8], how: CellBreak) -> Vec<u8> {
+    let mut lines: Vec<String> = good
+        .split_inclusive(|&byte| byte == b'\n')
+        .map(|line| String::from_utf8_lossy(line).into_owned())
+        .collect();
+    match how {
+        CellBreak::FirstLine => {
+            let first = [
+                "pack=3",
+                "pack=02",
+                "pack=0",
+                "pack=",
+                "pack=12",
+                "pack=2,2",
+                "pack=2,",
+                "pack=65538",
+                "pack=2:1",
+                "pack= 2",
+                "pack=2\r",
+                "Pack=2",
+                "form=2",
+                "",
+                "pack=2\n",
+                "pack=1\npack=2",
+            ];
+            lines[0] = format!("{}\n", rng.pick(&first));
+        }
+        CellBreak::FormOne => lines[0] = "pack=1\n".to_string(),
+        CellBreak::EmptyElsewhere => {
+            // A line that may not be empty after its `=`.
+            let others: Vec<usize> = (0..lines.len())
+                .filter(|&number| !is_cells(&lines[number]))
+                .collect();
+            let number = *rng.pick(&others);
+            if let Some((name, _)) = lines[number].clone().split_once('=') {
+                lines[number] = format!("{name}=\n");
+            }
+        }
+        _ => {
+            let sizes: Vec<usize> = lines[1]
+                .trim_end_matches('\n')
+                .split(['=', ','])
+                .filter_map(|size| size.parse().ok())
+                .collect();
+            let number = cells_line(rng, &lines);
+            let line = lines[number].clone();
+            let (name, rest) = line
+                .trim_end_matches('\n')
+                .split_once('=')
+                .unwrap_or(("", ""));
+            let columns = match name {
+                "act" => sizes[0],
+                "goto" => sizes[1],
+                _ => sizes[5],
+            };
+            let mut fields: Vec<String> = rest.split(',').map(str::to_string).collect();
+            if rest.is_empty() {
+                fields.clear();
+            }
+            break_cells(rng, &mut fields, columns, how);
+            lines[number] = format!("{name}={}\n", fields.join(","));
+        }
+    }
+    lines.concat().into_bytes()
+}
+
+fn is_cells(line: &str) -> bool {
+    ["act=", "goto=", "move="]
+        .iter()
+        .any(|name| line.starts_with(name))
+}
+
+/// A line of cells, each of the three names as likely as another; mostly one that has cells.
+fn cells_line(rng: &mut Rng, lines: &[String]) -> usize {
+    let named = |name: &str| -> Vec<usize> {
+        (0..lines.len())
+            .filter(|&number| lines[number].starts_with(name))
+            .collect()
+    };
+    // A text over the limit may be cut before the last of them.
+    let names: Vec<&str> = ["act=", "goto=", "move="]
+        .into_iter()
+        .filter(|name| !named(name).is_empty())
+        .collect();
+    let name = *rng.pick(&names);
+    let named = named(name);
+    let filled: Vec<usize> = named
+        .iter()
+        .copied()
+        .filter(|&number| lines[number].trim_end() != name)
+        .collect();
+    match filled.is_empty() || rng.once_in(8) {
+        true => *rng.pick(&named),
+        false => *rng.pick(&filled),
+    }
+}
+
+fn break_cells(rng: &mut Rng, fields: &mut Vec<String>, columns: usize, how: CellBreak) {
+    // A row without cells gets a wrong one.
+    if fields.is_empty() {
+        let column = rng.below(columns);
+        fields.push(format!("{column}:1"));
+    }
+    let i = rng.below(fields.len());
+    let field = fields[i].clone();
+    let (column, code) = field.split_once(':').unwrap_or(("0", "1"));
+    let (column, code) = (column.to_string(), code.to_string());
+    match how {
+        CellBreak::ColumnFalls => match fields.len() {
+            1 if column == "0" => fields.insert(0, "1:1".to_string()),
+            1 => fields.push(format!("0:{code}")),
+            count => {
+                let i = i.min(count - 2);
+                fields.swap(i, i + 1);
+            }
+        },
+        CellBreak::ColumnRepeats => {
+            let again = match rng.percent(50) {
+                true => field,
+                false => format!("{column}:{}", rng.from_to(1, 9)),
+            };
+            fields.insert(i + 1, again);
+        }
+        CellBreak::ColumnOutside => {
+            let outside = match rng.below(4) {
+                0 => rng.from_to(columns, 65_535),
+                1 => rng.from_to(columns, columns + 70),
+                _ => columns,
+            };
+            match rng.percent(60) {
+                // One cell more, behind the others.
+                true => fields.push(format!("{outside}:{code}")),
+                false => {
+                    fields.pop();
+                    fields.push(format!("{outside}:{code}"));
+                }
+            }
+        }
+        CellBreak::ZeroCell => {
+            // A cell that is made 0, or one that is 0 and stands there.
+            let free = (0..columns)
+                .find(|column| !fields.iter().any(|f| f.starts_with(&format!("{column}:"))));
+            match free {
+                Some(free) if rng.percent(50) => {
+                    let behind = |f: &String| {
+                        let column = f.split(':').next().and_then(|c| c.parse().ok());
+                        column.unwrap_or(0) < free
+                    };
+                    let place = fields.iter().take_while(|f| behind(f)).count();
+                    fields.insert(place, format!("{free}:0"));
+                }
+                _ => fields[i] = format!("{column}:0"),
+            }
+        }
+        CellBreak::LeadingZero => {
+            fields[i] = match rng.percent(50) {
+                true => format!("0{field}"),
+                false => format!("{column}:0{code}"),
+            }
+        }
+        CellBreak::NoCode => fields[i] = format!("{column}:"),
+        CellBreak::NoColumn => fields[i] = format!(":{code}"),
+        CellBreak::NoColon => {
+            fields[i] = match rng.below(3) {
+                0 => column,
+                1 => code,
+                _ => format!("{column}{code}"),
+            }
+        }
+        CellBreak::TwoColons => {
+            fields[i] = match rng.below(4) {
+                0 => format!("{column}::{code}"),
+                1 => format!(":{field}"),
+                2 => format!("{field}:"),
+                _ => format!("{field}:{}", rng.below(3)),
+            }
+        }
+        CellBreak::OtherColon => {
+            let other = rng.pick(&["=", ";", ".", ",", " ", "\u{0}", "-", "/"]);
+            fields[i] = format!("{column}{other}{code}");
+        }
+        CellBreak::CommaInFront => fields.insert(0, String::new()),
+        CellBreak::CommaBehind => fields.push(String::new()),
+        CellBreak::TwoCommas => match fields.len() {
+            1 => *fields = vec![String::new(); 2],
+            count => fields.insert(1 + i.min(count - 2), String::new()),
+        },
+        CellBreak::NumberOver65535 => {
+            let over = *rng.pick(&["65536", "65537", "99999", "100000", "4294967297"]);
+            fields[i] = match rng.percent(50) {
+                true => format!("{over}:{code}"),
+                false => format!("{column}:{over}"),
+            };
+        }
+        CellBreak::Blank => {
+            fields[i] = match rng.below(4) {
+                0 => format!(" {field}"),
+                1 => format!("{column} :{code}"),
+                2 => format!("{column}: {code}"),
+                _ => format!("{field} "),
+            }
+        }
+        CellBreak::FullRow => {
+            let mut row = vec!["0".to_string(); columns];
+            for field in fields.iter() {
+                if let Some((column, code)) = field.split_once(':') {
+                    if let Some(cell) = column.parse().ok().and_then(|c: usize| row.get_mut(c)) {
+                        *cell = code.to_string();
+                    }
+                }
+            }
+            *fields = row;
+        }
+        CellBreak::EmptyElsewhere | CellBreak::FirstLine | CellBreak::FormOne => {
+            unreachable!("{how:?} breaks no cell")
+        }
+    }
 }
 
 /// Damages a query.

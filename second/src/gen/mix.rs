@@ -5,7 +5,7 @@ use std::rc::Rc;
 
 use super::borders;
 use super::conditions;
-use super::damage::{self, TextBreak};
+use super::damage::{self, CellBreak, TextBreak};
 use super::passing::{passing, Drops, Language, Scale};
 use super::printing;
 use super::query;
@@ -25,19 +25,21 @@ use crate::print::print;
 use crate::scan::scan;
 use crate::sets::{self, Set};
 use crate::shape::{self, Rule};
-use crate::text::text_of;
+use crate::text::{text_in, text_of, Form};
 
 /// The kinds of cases wanted.
 #[derive(Clone, Copy, Debug, PartialEq, Eq)]
 pub struct Kinds {
     /// Shape and the scan called by itself.
     pub scan: bool,
-    /// Reader and writer.
+    /// Reader and writer of form 1.
     pub text: bool,
     pub check: bool,
     /// Parse and leaf.
     pub parse: bool,
     pub print: bool,
+    /// Reader and writer of form 2, and the moves.
+    pub forms: bool,
 }
 
 impl Kinds {
@@ -47,6 +49,7 @@ impl Kinds {
         check: false,
         parse: false,
         print: false,
+        forms: false,
     };
 
     pub const ALL: Kinds = Kinds {
@@ -55,6 +58,7 @@ impl Kinds {
         check: true,
         parse: true,
         print: true,
+        forms: true,
     };
 
     pub const SCAN: Kinds = Kinds {
@@ -82,6 +86,11 @@ impl Kinds {
         ..Kinds::NONE
     };
 
+    pub const FORMS: Kinds = Kinds {
+        forms: true,
+        ..Kinds::NONE
+    };
+
     pub fn by_name(name: &str) -> Option<Kinds> {
         match name {
             "all" => Some(Kinds::ALL),
@@ -90,6 +99,7 @@ impl Kinds {
             "check" => Some(Kinds::CHECK),
             "parse" => Some(Kinds::PARSE),
             "print" => Some(Kinds::PRINT),
+            "forms" => Some(Kinds::FORMS),
             _ => None,
         }
     }
@@ -116,6 +126,8 @@ pub struct Mix {
     pub drops: Drops,
     /// How often each way to break a text was taken.
     pub breaks: BTreeMap<TextBreak, usize>,
+    /// How often each way to break the cells of form 2 was taken.
+    pub cell_breaks: BTreeMap<CellBreak, usize>,
 }
 
 impl Mix {
@@ -127,6 +139,7 @@ impl Mix {
             bundles: 0,
             drops: Drops::default(),
             breaks: BTreeMap::new(),
+            cell_breaks: BTreeMap::new(),
         }
     }
 
@@ -198,8 +211,8 @@ impl Mix {
 
     /// Tables of good shape: passing, passing but for some changes, random, or looping.
     fn good_tables(&mut self) -> (Tables, Option<Language>) {
-        if self.small && self.kinds.text && self.rng.percent(70) {
-            // The reader and the writer look at the shape only, so very small ones serve them best.
+        if self.small && (self.kinds.text || self.kinds.forms) && self.rng.percent(70) {
+            // The reader, the writers and the moves look at the shape only, so very small ones serve them best.
             let sizes = random::least_sizes(&mut self.rng);
             return (random::tables(&mut self.rng, sizes), None);
         }
@@ -242,8 +255,12 @@ impl Mix {
             });
         }
         if self.kinds.text {
-            self.writes(subject, &mut cases);
+            self.writes(Form::One, subject, &mut cases);
             self.reads(subject, &mut cases);
+        }
+        if self.kinds.forms {
+            self.writes(Form::Two, subject, &mut cases);
+            self.moves(subject, &mut cases);
         }
         if self.kinds.scan || self.kinds.parse || self.kinds.print {
             let texts = if good { self.rng.from_to(1, 3) } else { 1 };
@@ -297,13 +314,30 @@ impl Mix {
             });
         }
         if self.kinds.text && self.rng.once_in(5) {
-            self.writes(&copy, cases);
-            if let Some(text) = Mix::writable(image) {
+            self.writes(Form::One, &copy, cases);
+            if let Some(text) = Mix::writable(Form::One, image) {
                 let room = self.rng.from_to(0, image.len());
                 cases.push(Case::Read {
                     text: Rc::new(text),
                     room: room as u32,
                 });
+            }
+        }
+        if self.kinds.forms && self.rng.once_in(5) {
+            self.writes(Form::Two, &copy, cases);
+            for form in Form::ALL {
+                let Some(text) = Mix::writable(form, image) else {
+                    continue;
+                };
+                let text = Rc::new(text);
+                let room = self.rng.from_to(0, 2 * text.len()).min(MOST_BYTES) as u32;
+                if form == Form::Two {
+                    let room = self.rng.from_to(0, image.len()) as u32;
+                    let text = text.clone();
+                    cases.push(Case::Read { text, room });
+                }
+                let to = form.other();
+                cases.push(Case::Move { to, text, room });
             }
         }
         if self.kinds.check && self.rng.once_in(10) {
@@ -683,15 +717,15 @@ impl Mix {
     }
 
     /// The text of an image whose lines can be written, whatever its shape.
-    fn writable(image: &[u16]) -> Option<Vec<u8>> {
+    fn writable(form: Form, image: &[u16]) -> Option<Vec<u8>> {
         shape::front(image).ok()?;
         let pack = Pack::new(image);
         let lines = (0..pack.sizes.productions).all(|p| pack.len(p) <= PROD_SYMBOLS);
-        lines.then(|| text_of(&pack))
+        lines.then(|| text_in(form, &pack))
     }
 
-    fn writes(&mut self, subject: &Subject, cases: &mut Vec<Case>) {
-        let length = Mix::writable(&subject.image).map_or(9, |text| text.len());
+    fn writes(&mut self, form: Form, subject: &Subject, cases: &mut Vec<Case>) {
+        let length = Mix::writable(form, &subject.image).map_or(9, |text| text.len());
         let rng = &mut self.rng;
         let mut rooms = vec![length + rng.below(20)];
         if rng.percent(40) {
@@ -706,6 +740,7 @@ impl Mix {
         }
         for room in rooms {
             cases.push(Case::Write {
+                form,
                 image: subject.image.clone(),
                 room: room.min(MOST_BYTES) as u32,
             });
@@ -713,7 +748,7 @@ impl Mix {
     }
 
     fn reads(&mut self, subject: &Subject, cases: &mut Vec<Case>) {
-        let Some(text) = Mix::writable(&subject.image) else {
+        let Some(text) = Mix::writable(Form::One, &subject.image) else {
             return;
         };
         if text.len() > TEXT_LIMIT + 1 {
@@ -751,6 +786,119 @@ impl Mix {
         }
     }
 
+    /// Moves of the texts of one image, good and broken, to the other form and to their own; and the reading of form 2.
+    fn moves(&mut self, subject: &Subject, cases: &mut Vec<Case>) {
+        let [one, two] = Form::ALL.map(|form| Mix::writable(form, &subject.image));
+        let (Some(one), Some(two)) = (one, two) else {
+            return;
+        };
+        let (words, lengths) = (subject.image.len(), [one.len(), two.len()]);
+        let texts = [one, two].map(|mut text| {
+            text.truncate(MOST_BYTES);
+            Rc::new(text)
+        });
+        for (form, text) in Form::ALL.into_iter().zip(&texts) {
+            let to = form.other();
+            let needed = lengths[usize::from(to.number()) - 1];
+            let rng = &mut self.rng;
+            let mut rooms = vec![needed + rng.below(20)];
+            if rng.percent(40) {
+                rooms.push(match rng.below(4) {
+                    0 => needed - 1,
+                    1 => rng.below(needed),
+                    2 => 0,
+                    _ => needed,
+                });
+            }
+            cases.extend(rooms.into_iter().map(|room| Case::Move {
+                to,
+                text: text.clone(),
+                room: room.min(MOST_BYTES) as u32,
+            }));
+            // The wrong first line for this move.
+            if self.rng.once_in(4) {
+                let room = self.rng.from_to(0, text.len() + 20).min(MOST_BYTES) as u32;
+                let text = text.clone();
+                cases.push(Case::Move {
+                    to: form,
+                    text,
+                    room,
+                });
+            }
+        }
+        let rng = &mut self.rng;
+        let mut rooms = vec![words + rng.below(20)];
+        if rng.percent(40) {
+            rooms.push(match rng.below(3) {
+                0 => words - 1,
+                1 => rng.below(words),
+                _ => words,
+            });
+        }
+        for room in rooms {
+            cases.push(Case::Read {
+                text: texts[1].clone(),
+                room: room.min(MOST_WORDS) as u32,
+            });
+        }
+        // Large texts are broken once only.
+        let breaks = if texts[0].len() > 3_000 { 1 } else { 4 };
+        for _ in 0..breaks {
+            if self.rng.percent(65) {
+                let how = *self.rng.pick(&CellBreak::ALL);
+                *self.cell_breaks.entry(how).or_default() += 1;
+                let broken = damage::cells(&mut self.rng, &texts[1], how);
+                self.broken(Form::Two, broken, words, cases);
+                continue;
+            }
+            let form = *self.rng.pick(&Form::ALL);
+            let how = *self.rng.pick(&TextBreak::ALL);
+            *self.breaks.entry(how).or_default() += 1;
+            let good = &texts[usize::from(form.number()) - 1];
+            let broken = damage::text(&mut self.rng, good, how);
+            self.broken(form, broken, words, cases);
+        }
+    }
+
+    /// A broken text of form 2 is read and moved, and one of form 1 moved.
+    fn broken(&mut self, form: Form, mut text: Vec<u8>, words: usize, cases: &mut Vec<Case>) {
+        text.truncate(MOST_BYTES);
+        let text = Rc::new(text);
+        let room = (text.len() * 4 + self.rng.below(200)).min(MOST_BYTES) as u32;
+        cases.push(Case::Move {
+            to: form.other(),
+            text: text.clone(),
+            room,
+        });
+        if form == Form::Two {
+            let room = (words + self.rng.below(8)).min(MOST_WORDS) as u32;
+            cases.push(Case::Read { text, room });
+        }
+    }
+
+    /// Packs of the greatest sizes with the text of one form about the limit: where form 1 is over it and form 2 is not,
+    /// where form 2 is and form 1 is not, and where both are.
+    fn long_forms(&mut self, cases: &mut Vec<Case>) {
+        for (form, digits) in [(Form::One, 3), (Form::Two, 1), (Form::Two, 3)] {
+            let rng = &mut self.rng;
+            let length = TEXT_LIMIT
+                + match rng.below(4) {
+                    0 => 0,
+                    1 => rng.from_to(1, 600),
+                    _ => 1,
+                };
+            let image = wide::with_length(rng, form, length, digits);
+            let subject = Subject {
+                image: Rc::new(image),
+                language: None,
+            };
+            for form in Form::ALL {
+                self.writes(form, &subject, cases);
+            }
+            self.moves(&subject, cases);
+        }
+    }
+
     /// Texts and queries about the limit of 65,535 bytes, and images of the greatest sizes.
     fn long_bundle(&mut self) -> Vec<Case> {
         let mut cases = Vec::new();
@@ -784,8 +932,12 @@ impl Mix {
                 let room = self.rng.from_to(20_500, MOST_WORDS) as u32;
                 cases.push(Case::Read { text, room });
                 let room = self.rng.from_to(65_500, MOST_BYTES) as u32;
-                cases.push(Case::Write { image, room });
+                let form = Form::One;
+                cases.push(Case::Write { form, image, room });
             }
+        }
+        if self.kinds.forms {
+            self.long_forms(&mut cases);
         }
         if self.kinds.print {
             self.long_prints(&mut cases);
@@ -903,6 +1055,16 @@ impl Mix {
             .map(|how| {
                 *self.breaks.entry(how).or_default() += 1;
                 Rc::new(damage::text(&mut self.rng, good, how))
+            })
+            .to_vec()
+    }
+
+    /// A text of form 2 broken in each of the ways in which cells are.
+    pub fn broken_cells(&mut self, good: &[u8]) -> Vec<Text> {
+        CellBreak::ALL
+            .map(|how| {
+                *self.cell_breaks.entry(how).or_default() += 1;
+                Rc::new(damage::cells(&mut self.rng, good, how))
             })
             .to_vec()
     }

@@ -9,4 +9,4 @@ pub lines-of-spec : {M : Type 1} → statement M
 unfolding tablesOf
 lines-of-spec =
     tie.close
-    (tie.spec (λ c κs. search needs) (λ c κs. search needs) (λ c κs. search needs) (λ c κs. search needs) (λ c κs. search needs) (λ c κs. search needs) (λ c κs. search needs) (λ c κs. search needs) (λ c. search needs) (λ c. search needs) (λ c. search needs) (λ c. search needs) (λ c. search needs) (λ c. search needs) (λ c. search needs) (λ c. search needs) (λ c. rw (last-place _ (c .before .before .before .pre .1) (c .before .match .rest), c .groups .ensures)))
+    (tie.spec (λ c κs. search needs) (λ c κs. search needs) (λ c κs. search needs) (λ c κs. search needs) (λ c κs. search needs) (λ c κs. search needs) (λ c κs. search needs) (λ c κs. search needs) (λ c form. search needs) (λ c form. search needs) (λ c form. search needs) (λ c form. search needs) (λ c form. search needs) (λ c form. search needs) (λ c form. search needs) (λ c form. search needs) (λ c form. rw (last-place _ (c .before .before .before .pre .1) (c .before .match .rest), c .groups .ensures)))

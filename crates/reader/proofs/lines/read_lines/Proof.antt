@@ -31,7 +31,8 @@ read-line-requires c κs =
     let t = c .before in
     let l = t .before .loop in
     let s = t .before .before .before .before .before .before in
-    (l .inv .0, omega (arith, l .inv .1, l .inv .2, one-more (l .left) (rowWidth (s .args .row)) (t .loop-test .taken), s .pre .1 .0))
+    let m = one-more (l .left) (rowWidth (s .args .row)) (t .loop-test .taken) in
+    (l .inv .0, (omega (arith, l .inv .1, l .inv .2, m, s .pre .1 .0), omega (arith, l .inv .1, m, s .pre .1 .1)))
 
 returns-2 : tie.Need-returns-2 Inv-loop μ-loop
 returns-2 c =

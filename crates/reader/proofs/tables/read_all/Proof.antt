@@ -9,15 +9,15 @@ read-tables-requires : tie.Need-read-tables-requires
 read-tables-requires c κs =
     let d = c .before .before .before in
     let p = d .before .before .before .before .before .pre in
-    let n = head-needed _ _ _ (p .0) (p .1 .0) (p .1 .1 .0) in
-    (p .1 .0 .inside, (omega (arith, p .0), (omega (arith, n, d .deliver .kept .1 .0, p .1 .1 .1), head-room _ _ _ (p .0) (p .1 .0) (p .1 .1 .0))))
+    let n = head-needed _ _ _ _ (p .0) (p .1 .0) (p .1 .1 .0) in
+    (p .1 .0 .inside, (omega (arith, p .0), (omega (arith, n, d .deliver .kept .1 .0, p .1 .1 .1), head-room _ _ _ _ (p .0) (p .1 .0) (p .1 .1 .0))))
 
 returns : tie.Need-returns
 returns c =
     let t = c .before .before .before in
     let d = t .before .before .before .before in
     let p = d .before .before .before .before .before .pre in
-    all-done _ _ _ (p .0) (p .1 .0) (p .1 .1 .0) _ _ _ _ _ _ (p .1 .1 .1) (d .deliver .ensures) (t .read-tables .ensures) (c .ended .ensures _)
+    all-done _ _ _ _ (p .0) (p .1 .0) (p .1 .1 .0) _ _ _ _ _ _ (p .1 .1 .1) (d .deliver .ensures) (t .read-tables .ensures) (c .ended .ensures _)
 
 pub read-all-spec : {M : Type 1} → statement M
 read-all-spec =

@@ -14,14 +14,14 @@ slice-aggregate-read-lines c =
 read-lines-requires : tie.Need-read-lines-requires
 read-lines-requires c κs =
     let s = c .before .before .before .before .before .before .before .before .before .before in
-    (s .pre .0, (rw (c .lines-of .ensures, c .before .row-of .ensures) (s .pre .1 .1 .1 .0), rw (c .lines-of .ensures, c .before .row-of .ensures) (s .pre .1 .1 .1 .1)))
+    (s .pre .0, (rw (c .lines-of .ensures (s .args .form), c .before .row-of .ensures) (s .pre .1 .1 .1 .0), rw (c .lines-of .ensures (s .args .form), c .before .row-of .ensures) (s .pre .1 .1 .1 .1)))
 
 returns : tie.Need-returns
 returns c =
     let w = c .before .before in
     let r = w .before .before in
     let n = r .before .before .before .before in
-    rw (← n .name-of .ensures .1 _, ← r .row-of .ensures, ← w .before .lines-of .ensures) (w .read-lines .ensures)
+    rw (← n .name-of .ensures .1 _ _, ← r .row-of .ensures, ← w .before .lines-of .ensures _) (w .read-lines .ensures)
 
 pub read-table-spec : {M : Type 1} → statement M
 read-table-spec =

@@ -15,12 +15,12 @@ use Rattle.reader.proofs.tables.read_tables.Statement.{statement}
 use Rattle.reader.proofs.tables.read_tables.Tie as tie
 
 abbrev Inv-loop : tie.InvT-loop
-Inv-loop text head img₀ d₀ i₀ img d i =
-    (d .at ≤ length text) × (d .words + tableWords (tablesFrom head i) ≤ d₀ .words + tableWords (tablesOf head)) × (length img ≡ length img₀)
-    × (thenLines (linesOf text img₀ d₀) (readTables (tablesOf head)) ≡ thenLines (linesOf text img d) (readTables (tablesFrom head i)))
+Inv-loop text form head img₀ d₀ i₀ img d i =
+    (d .at ≤ length text) × (d .words + tableWords (tablesFrom form head i) ≤ d₀ .words + tableWords (tablesOf form head)) × (length img ≡ length img₀)
+    × (thenLines (linesOf text img₀ d₀) (readTables (tablesOf form head)) ≡ thenLines (linesOf text img d) (readTables (tablesFrom form head i)))
 
 abbrev μ-loop : tie.MeasureT-loop
-μ-loop text head img₀ d₀ i₀ img d i = 9 - i
+μ-loop text form head img₀ d₀ i₀ img d i = 9 - i
 
 loop-holds : tie.Need-loop-holds Inv-loop μ-loop
 loop-holds c = (c .before .before .before .pre .0, omega arith, refl, refl)
@@ -30,7 +30,7 @@ read-table-requires c κs =
     let l = c .before .before in
     let s = l .before .before .before .before in
     let h = c .before .loop-test .taken in
-    let w = words-on (s .args .head .now) (l .loop .i) h in
+    let w = words-on (s .args .form) (s .args .head .now) (l .loop .i) h in
     (l .loop .inv .0, (s .pre .1 .0, (h, (omega (arith, s .pre .1 .1 .0, l .loop .inv .1, l .loop .inv .2, w), omega (arith, s .pre .1 .1 .1, l .loop .inv .1, w)))))
 
 loop-again : tie.Need-loop-again Inv-loop μ-loop
@@ -42,15 +42,15 @@ loop-again c =
     let h = t .loop-test .taken in
     let p = r .read-table .ensures in (
       p .inside,
-      omega (arith, p .fits, l .loop .inv .1, words-on (s .args .head .now) (l .loop .i) h),
-      r .read-table .kept .1 .1 .0 ∙ l .loop .inv .2,
-      l .loop .inv .3 ∙ table-on _ _ _ _ h (p .means),
+      omega (arith, p .fits, l .loop .inv .1, words-on (s .args .form) (s .args .head .now) (l .loop .i) h),
+      r .read-table .kept .1 .1 .1 .0 ∙ l .loop .inv .2,
+      l .loop .inv .3 ∙ table-on _ _ _ _ _ h (p .means),
     )
 
 returns : tie.Need-returns Inv-loop μ-loop
 returns c =
     let l = c .before .loop .inv in
-    lines-as _ (l .3) (record { means = tables-done _ _ _ (c .loop-test .left); inside = l .0; fits = omega (arith, l .1) })
+    lines-as _ (l .3) (record { means = tables-done _ _ _ _ (c .loop-test .left); inside = l .0; fits = omega (arith, l .1) })
 
 pub read-tables-spec : {M : Type 1} → statement M
 read-tables-spec =

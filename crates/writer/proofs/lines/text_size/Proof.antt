@@ -15,7 +15,7 @@ returns : tie.Need-returns
 unfolding sizes
 returns c =
     let a = c .before .lines-size .ensures .0 (sizes .name) refl in
-    omega (arith, text-length (c .before .before .before .args .img .now), a, c .tables-size .ensures .0)
+    omega (arith, text-length (c .before .before .before .args .form) (c .before .before .before .args .img .now), a, c .tables-size .ensures .0)
 
 pub text-size-spec : {M : Type 1} → statement M
 text-size-spec = tie.close (tie.spec lines-size-requires (λ c. search needs) (λ c κs. search needs) (λ c. search needs) returns)

@@ -17,7 +17,7 @@ write-lines-requires c κs =
     let s = c .before .before .before .before .before .before .before .before .before in
     let n = c .before .before .before .before .before .name-of .ensures in (
       simp length-take (omega (arith, n .0)),
-      (rw (c .lines-of .ensures, c .before .row-of .ensures) (s .pre .1 .1 .0), rw (c .lines-of .ensures, c .before .row-of .ensures, n .1 (s .args .img .now)) (s .pre .1 .1 .1)),
+      (rw (c .lines-of .ensures (s .args .form), c .before .row-of .ensures) (s .pre .1 .1 .0), rw (c .lines-of .ensures (s .args .form), c .before .row-of .ensures, n .1 (s .args .form) (s .args .img .now)) (s .pre .1 .1 .1)),
     )
 
 returns : tie.Need-returns
@@ -25,7 +25,7 @@ returns c =
     let w = c .before .before in
     let r = w .before .before in
     let n = r .before .before .before .before in
-    rw (← n .name-of .ensures .1 _, ← r .row-of .ensures, ← w .before .lines-of .ensures) (w .write-lines .ensures)
+    rw (← n .name-of .ensures .1 _ _, ← r .row-of .ensures, ← w .before .lines-of .ensures _) (w .write-lines .ensures)
 
 pub write-table-spec : {M : Type 1} → statement M
 write-table-spec =

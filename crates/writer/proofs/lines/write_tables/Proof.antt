@@ -15,22 +15,22 @@ use Rattle.writer.proofs.lines.write_tables.Statement.{statement}
 use Rattle.writer.proofs.lines.write_tables.Tie as tie
 
 abbrev Inv-loop : tie.InvT-loop
-Inv-loop out₀ at img to₀ from₀ i₀ out to from i =
-    (Room (tablesText (tablesFrom img i) img from) out to) × (from + tableWords (tablesFrom img i) ≤ largestImage) × (length out ≡ length out₀)
-    × ((out′ : List ℕ) (r : ℕ) → Wrote (tablesText (tablesFrom img i) img from) out to out′ r → Wrote (tablesText (tablesOf img) img layoutAt) out₀ to₀ out′ r)
+Inv-loop out₀ at img form to₀ from₀ i₀ out to from i =
+    (Room (tablesText (tablesFrom form img i) img from) out to) × (from + tableWords (tablesFrom form img i) ≤ largestImage) × (length out ≡ length out₀)
+    × ((out′ : List ℕ) (r : ℕ) → Wrote (tablesText (tablesFrom form img i) img from) out to out′ r → Wrote (tablesText (tablesOf form img) img layoutAt) out₀ to₀ out′ r)
 
 abbrev μ-loop : tie.MeasureT-loop
-μ-loop out₀ at img to₀ from₀ i₀ out to from i = 9 - i
+μ-loop out₀ at img form to₀ from₀ i₀ out to from i = 9 - i
 
 loop-holds : tie.Need-loop-holds Inv-loop μ-loop
-loop-holds c = let s = c .before .before in (s .pre .1, tables-fit _ (s .pre .0), refl, λ out′ r p. p)
+loop-holds c = let s = c .before .before in (s .pre .1, tables-fit _ _ (s .pre .0), refl, λ out′ r p. p)
 
 write-table-requires : tie.Need-write-table-requires Inv-loop μ-loop
 write-table-requires c κs =
     let l = c .before .before in
     let s = l .before .before .before in
     let h = c .before .loop-test .taken in
-    (s .pre .0, (h, (omega (arith, l .loop .inv .1, words-on (s .args .img .now) (l .loop .i) h), table-room _ _ _ h (l .loop .inv .0))))
+    (s .pre .0, (h, (omega (arith, l .loop .inv .1, words-on (s .args .form) (s .args .img .now) (l .loop .i) h), table-room _ _ _ _ h (l .loop .inv .0))))
 
 table-words-requires : tie.Need-table-words-requires Inv-loop μ-loop
 table-words-requires c κs =
@@ -38,14 +38,14 @@ table-words-requires c κs =
     let l = t .before in
     let s = l .before .before .before in
     let h = t .loop-test .taken in
-    (s .pre .0, (h, omega (arith, l .loop .inv .1, words-on (s .args .img .now) (l .loop .i) h)))
+    (s .pre .0, (h, omega (arith, l .loop .inv .1, words-on (s .args .form) (s .args .img .now) (l .loop .i) h)))
 
 add-from : tie.Need-add-from Inv-loop μ-loop
 add-from c =
     let t = c .before .before .before .before .before in
     let l = t .before in
     let s = l .before .before .before in
-    omega (arith, c .table-words .ensures, l .loop .inv .1, words-on (s .args .img .now) (l .loop .i) (t .loop-test .taken))
+    omega (arith, c .table-words .ensures, l .loop .inv .1, words-on (s .args .form) (s .args .img .now) (l .loop .i) (t .loop-test .taken))
 
 loop-again : tie.Need-loop-again Inv-loop μ-loop
 loop-again c =
@@ -54,14 +54,14 @@ loop-again c =
     let l = t .before in
     let s = l .before .before .before in
     let h = t .loop-test .taken in (
-      tables-room _ _ _ h (l .loop .inv .0) (c .table-words .ensures) (w .write-table .ensures),
-      omega (arith, c .table-words .ensures, l .loop .inv .1, words-on (s .args .img .now) (l .loop .i) h),
+      tables-room _ _ _ _ h (l .loop .inv .0) (c .table-words .ensures) (w .write-table .ensures),
+      omega (arith, c .table-words .ensures, l .loop .inv .1, words-on (s .args .form) (s .args .img .now) (l .loop .i) h),
       w .write-table .kept .0 ∙ l .loop .inv .2,
-      λ out′ r p. l .loop .inv .3 out′ r (table-on _ _ _ h (c .table-words .ensures) (w .write-table .ensures) p),
+      λ out′ r p. l .loop .inv .3 out′ r (table-on _ _ _ _ h (c .table-words .ensures) (w .write-table .ensures) p),
     )
 
 returns : tie.Need-returns Inv-loop μ-loop
-returns c = let l = c .before .loop in l .inv .3 _ _ (tables-last _ _ _ _ _ (c .loop-test .left))
+returns c = let l = c .before .loop in l .inv .3 _ _ (tables-last _ _ _ _ _ _ (c .loop-test .left))
 
 pub write-tables-spec : {M : Type 1} → statement M
 write-tables-spec =
