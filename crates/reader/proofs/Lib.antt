@@ -1,4 +1,2 @@
-pub mod CellLaws
-pub mod FieldLaws
 pub mod LineLaws
 pub mod TableLaws

@@ -27,8 +27,10 @@ use Rattle.text.specs.Reader.Lines.{wrongFrom, all}
 use Rattle.text.proofs.Lines.{lines-lines, lines-all}
 use Rattle.text.proofs.Tables.{tablesFrom, tables-on, tables-end, tables-fit, tables-needed}
 use Rattle.reader.specs.declared.lines.Cursor.{Cursor}
-use Rattle.reader.specs.Steps.{Placed, linesOf, ReadsLines}
-use Rattle.reader.proofs.LineLaws.{took-is, wrong-is, lines-go}
+use Rattle.fields.specs.Steps.{Placed}
+use Rattle.reader.specs.Steps.{linesOf, ReadsLines}
+use Rattle.fields.proofs.PlaceLaws.{took-is, wrong-is}
+use Rattle.reader.proofs.LineLaws.{lines-go}
 
 -- ---- the first two lines
 -- The first line tells the form.

@@ -14,8 +14,7 @@ ghost use Rattle.reader.specs.Steps.{ReadsLines};
 ghost use Rattle.text.specs.Reader.{readHead, readIn, formOf, judge, read};
 ghost use Rattle.text.specs.Reader.Lines.{all};
 
-mod fields; // fields.rt: numbers and sets
-mod lines; // lines.rt: the parts of a line, rows and lines
+mod lines; // lines.rt: the lines of a table
 mod tables; // tables.rt: the first two lines, the tables and the whole text
 
 // The scratch image is cleared for each call, so there are three sizes of it, and the sizes in the head say which one is enough.

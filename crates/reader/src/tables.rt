@@ -1,9 +1,9 @@
 // Reading the first two lines, the tables and the whole text.
 use crate::lines::Cursor;
-use crate::lines::expect;
-use crate::lines::read_line;
 use crate::lines::read_lines;
 use numbers::is_wrong;
+use rows::expect;
+use rows::read_line;
 use text::Form;
 use text::Row;
 ghost use mathlib.Core.Path.{_≡_};
@@ -14,7 +14,8 @@ ghost use lib.ListN.{length};
 ghost use Rattle.pack.specs.Image.{largestImage, needed};
 ghost use Rattle.text.specs.Form.{packLine, rowWidth, tableAt, tablesOf, tableWords};
 ghost use Rattle.text.specs.Reader.{expect, thenLines, readLines, readTables, readHead, ended, readIn};
-ghost use Rattle.reader.specs.Steps.{Placed, linesOf, ReadsLines};
+ghost use Rattle.fields.specs.Steps.{Placed};
+ghost use Rattle.reader.specs.Steps.{linesOf, ReadsLines};
 
 // The first line of a form.
 pub fn first_line(text: &[u8], form: Form) -> usize
