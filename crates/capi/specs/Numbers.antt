@@ -9,8 +9,8 @@ use Rattle.numbers.specs.declared.Verdict.{Verdict}
 use Rattle.numbers.specs.Verdicts.{verdictCode, verdictPlace}
 use Rattle.conditions.specs.declared.Checked.{Checked}
 use Rattle.scan.specs.declared.Scanned.{Scanned}
-use Rattle.parse.specs.declared.Parsed.{Parsed}
-use Rattle.parse.specs.declared.Part.{Part}
+use Rattle.records.specs.declared.Parsed.{Parsed}
+use Rattle.leaf.specs.declared.Part.{Part}
 use Rattle.parse.specs.Parse.{recordWords}
 use Rattle.parse.specs.Leaf.{leafPart}
 

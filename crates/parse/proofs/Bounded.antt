@@ -21,7 +21,7 @@ use Rattle.look.specs.declared.Looked.{Looked}
 use Rattle.look.specs.Look.{look}
 use Rattle.look.specs.Inner.{Within}
 use Rattle.look.proofs.Bounds.{Bounds, look-in}
-use Rattle.parse.specs.Parse.{recordWords, Standing, Ending, ending, Step, ends, goes, wrote, moved, top, shiftTo, reduceBy, accept, perform, step, run, start, roomOf, before, parse, treeAfter}
+use Rattle.records.specs.Parse.{recordWords, Standing, Ending, ending, Step, ends, goes, wrote, moved, top, shiftTo, reduceBy, accept, perform, step, run, start, roomOf, before, parse, treeAfter}
 
 module _ (text : List ℕ) (allowance : ℕ) where
   pub record Bounded (room : ℕ) (e : Ending) : Type 0 where

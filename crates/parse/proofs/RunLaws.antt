@@ -18,16 +18,16 @@ use Rattle.pack.specs.Laid.{Laid}
 use Rattle.numbers.specs.Verdicts.{isWrong, verdictPlace}
 use Rattle.shape.specs.Shape.{shape}
 use Rattle.shape.proofs.Laws.{is-good, is-wrong}
-use Rattle.parse.specs.declared.Parsed.{Parsed}
+use Rattle.records.specs.declared.Parsed.{Parsed}
 use Rattle.look.specs.declared.Spot.{Spot}
 use Rattle.look.specs.declared.Looked.{Looked}
-use Rattle.parse.specs.declared.act.Position.{Position}
-use Rattle.parse.specs.declared.act.Turned.{Turned}
+use Rattle.records.specs.declared.Position.{Position}
+use Rattle.records.specs.declared.Turned.{Turned}
 use Rattle.look.specs.Look.{look}
 use Rattle.look.specs.Inner.{Known, Within, LookedWithin}
-use Rattle.parse.specs.Parse.{Standing, Ending, Step, ends, goes, ending, top, perform, step, run, start, roomOf, before, parse, treeAfter}
-use Rattle.parse.specs.Inner.{Stacked, Roomy, Kept, KeptTurn, Turning, Turn, stops, turns, standing, bounded, told}
-use Rattle.parse.proofs.ActLaws.{bounded-ends, top-at}
+use Rattle.records.specs.Parse.{Standing, Ending, Step, ends, goes, ending, top, perform, step, run, start, roomOf, before, parse, treeAfter}
+use Rattle.records.specs.Inner.{Stacked, Roomy, Kept, KeptTurn, Turning, Turn, stops, turns, standing, bounded, told}
+use Rattle.records.proofs.ActLaws.{bounded-ends, top-at}
 
 -- One turn.
 module _ (img text stack tree : List ℕ) (allowance room : ℕ) (from : Position) (k : Stacked img stack (from .height)) (q : Roomy room tree (from .records))

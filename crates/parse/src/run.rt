@@ -1,25 +1,24 @@
 // Turn after turn.
-use crate::Parsed;
-use crate::act;
-use crate::act::Position;
-use crate::act::Turned;
 use look::Spot;
+use records::Parsed;
+use records::Position;
+use records::Turned;
 ghost use mathlib.Core.Path.{_≡_};
 ghost use Prim.Native.Nat.{ℕ, _+_, _*_, _-_, _/_, _<_, _≤_, min};
 ghost use lib.ListN.{length, getD, drop};
 ghost use Rattle.numbers.specs.declared.Verdict.the-variants.{Good};
 ghost use Rattle.shape.specs.Shape.{shape};
-ghost use Rattle.parse.specs.Inner.{Stacked, Roomy, KeptTurn, standing, bounded, told};
+ghost use Rattle.records.specs.Inner.{Stacked, Roomy, KeptTurn, standing, bounded, told};
 ghost use Rattle.scan.specs.Ready.{Ready};
 ghost use Rattle.look.specs.Inner.{Known, Within};
 ghost use Rattle.look.specs.Look.{look};
-ghost use Rattle.parse.specs.Parse.{step, run, start, roomOf, treeAfter};
+ghost use Rattle.records.specs.Parse.{step, run, start, roomOf, treeAfter};
 
 // Tree room: the whole records that fit.
 fn room_of(words: usize) -> usize
     ensures { λ r. ⌜ r ≡ min (words / 4) 65535 ⌝ }
 {
-    let fit = words / act::RECORD_WORDS;
+    let fit = words / records::RECORD_WORDS;
     if fit < numbers::MOST_RECORDS {
         return fit;
     }
@@ -47,7 +46,7 @@ fn turn(
     ensures { λ r. ⌜ KeptTurn (now (img .entry)) (now (text .entry)) allowance room (now (tree .entry)) (from .records) (now (stack .exit)) (now (known .exit)) (now (tree .exit)) r ⌝ }
 {
     let h = from.height;
-    let top = act::wide(stack[numbers::MOST_STATES - h]);
+    let top = records::wide(stack[numbers::MOST_STATES - h]);
     let here = from.at;
     let l = look::look(img, text, known, allowance, top, here);
     let at = l.at;

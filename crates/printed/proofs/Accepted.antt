@@ -18,7 +18,7 @@ use Rattle.conditions.specs.declared.Checked.{Checked}
 use Rattle.conditions.specs.Conditions.{Passes}
 use Rattle.conditions.specs.Check.{passed, check}
 use Rattle.conditions.proofs.Answers.{checked-passes}
-use Rattle.parse.specs.declared.Parsed.{Parsed}
+use Rattle.records.specs.declared.Parsed.{Parsed}
 use Rattle.parse.specs.Leaf.{leafBytes}
 use Rattle.parse.specs.Parse.{recordWords, leafRecord, nodeRecord, parse, treeAfter}
 use Rattle.promise.specs.Derivation.{Trees, none, leaf, node}

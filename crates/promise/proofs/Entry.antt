@@ -13,7 +13,7 @@ use Rattle.numbers.specs.Codes.{done, noTerminal, noGroup, stuck, longestText, 
 use Rattle.conditions.specs.declared.Checked.{Checked}
 use Rattle.conditions.specs.Check.{passed, check}
 use Rattle.conditions.proofs.Answers.{checked-passes}
-use Rattle.parse.specs.declared.Parsed.{Parsed}
+use Rattle.records.specs.declared.Parsed.{Parsed}
 use Rattle.parse.specs.Parse.{Ending, recordWords, parse, treeAfter}
 use Rattle.parse.proofs.Bounded.{parse-bounded, refused-long}
 use Rattle.promise.specs.Promised.{Accepted, Refused, Given, Halts}

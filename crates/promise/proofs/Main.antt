@@ -29,7 +29,7 @@ use Rattle.text.proofs.RoundTrip as Text
 use Rattle.text.proofs.Reform as Reform
 use Rattle.look.specs.declared.Spot.{Spot}
 use Rattle.look.specs.declared.Looked.{Looked}
-use Rattle.parse.specs.declared.Parsed.{Parsed}
+use Rattle.records.specs.declared.Parsed.{Parsed}
 use Rattle.parse.specs.Leaf.{part}
 use Rattle.parse.specs.Parse.{recordWords, leafRecord, run, start, parse, treeAfter}
 use Rattle.promise.specs.Cover.{RightLeaf, Blank, Covers}

@@ -15,7 +15,7 @@ use Rattle.text.specs.declared.Form.{Form}
 use Rattle.text.specs.Reader.{read}
 use Rattle.text.specs.Reform.{reform}
 use Rattle.text.specs.Writer.{write}
-use Rattle.parse.specs.declared.Parsed.{Parsed}
+use Rattle.records.specs.declared.Parsed.{Parsed}
 use Rattle.parse.specs.Parse.{parse, treeAfter}
 use Rattle.parse.specs.Leaf.{leafBytes}
 

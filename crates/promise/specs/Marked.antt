@@ -7,7 +7,7 @@ use lib.Dec.{eqb}
 use lib.ListN.{length, replicate}
 use Rattle.text.specs.Bytes.{bytes}
 use Rattle.numbers.specs.Codes.{greatestAllowance}
-use Rattle.parse.specs.declared.Parsed.{Parsed}
+use Rattle.records.specs.declared.Parsed.{Parsed}
 use Rattle.parse.specs.Parse.{parse, treeAfter}
 use Rattle.conditions.specs.declared.Checked.{Checked}
 use Rattle.conditions.specs.Check.{check}

@@ -3,7 +3,7 @@ use mathlib.Core.Path.{refl, sym, ap, _∙_}
 use Prim.Native.Nat.{_-_}
 use Rattle.parse.proofs.RunLaws.{parse-long, parse-wrong, parse-runs}
 use Rattle.shape.proofs.Laws.{is-good}
-use Rattle.parse.specs.Parse.{Ending, treeAfter}
+use Rattle.records.specs.Parse.{Ending, treeAfter}
 use Rattle.parse.proofs.parse.Statement.{statement}
 use Rattle.parse.proofs.parse.Tie as tie
 

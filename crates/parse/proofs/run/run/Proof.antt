@@ -4,7 +4,7 @@ use native.Mathlib.Omega.{arith}
 use lib.ListN.{length}
 use Rattle.parse.proofs.RunLaws.{turning-starts, turns-on, turns-less, turns-end, turns-tree}
 use Rattle.shape.proofs.Good.{good-laid}
-use Rattle.parse.specs.Inner.{Turning}
+use Rattle.records.specs.Inner.{Turning}
 use Rattle.parse.proofs.run.run.Statement.{statement}
 use Rattle.parse.proofs.run.run.Tie as tie
 
