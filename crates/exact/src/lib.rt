@@ -11,7 +11,7 @@ ghost use lib.ListN.{length};
 ghost use Rattle.pack.specs.Image.{mostSymbols, terminals, productions, states, scanStates, ranges, groups};
 ghost use Rattle.pack.specs.Laid.{Laid};
 ghost use Rattle.numbers.specs.declared.Verdict.the-variants.{Good};
-ghost use Rattle.order.specs.declared.Ruled.the-variants.{Dom, Act, Scan};
+ghost use Rattle.order.specs.declared.Ruled.the-variants.{Dom, Prod, Act, Class, Scan, Group};
 ghost use Rattle.order.specs.Rows.{rowRule, rowsOf};
 ghost use Rattle.order.specs.Shape.{each, layoutRule, domRule, symbolRule, prodRule, actRule, cellRule, gotoRules, rangeRule, moveRules, scanRule, groupRule};
 
@@ -38,7 +38,7 @@ fn symbol_rule(img: &[u16], p: usize, i: usize) -> Verdict
     rule(rules::symbol_right(img, p, i), image::symbol_at(img, p, i))
 }
 
-// How many symbols of a production have to be looked at: all after them are unused and 0.
+// How many symbols of a production have to be looked at: all after them are unused and 0. They are passed over from the end, four at a time.
 fn to_look_at(img: &[u16], p: usize) -> usize
     requires { ⌜ Laid (now img) ⌝ }
     requires { ⌜ p < productions (now img) ⌝ }
@@ -49,12 +49,15 @@ fn to_look_at(img: &[u16], p: usize) -> usize
         return image::MOST_SYMBOLS;
     }
     let at = image::prod_at(img, p);
-    let start = at + 2 + used;
-    let end = at + image::PRODUCTION_WORDS;
-    if quick::largest(&img[start..end]) == 0 {
-        return used;
+    let mut n: usize = image::MOST_SYMBOLS;
+    while used + image::SET_WORDS <= n {
+        if image::set_at(img, at + n - 2) == 0 {
+            n -= image::SET_WORDS;
+        } else {
+            return n;
+        }
     }
-    image::MOST_SYMBOLS
+    n
 }
 
 // The symbols of a production, used and unused.
@@ -172,7 +175,7 @@ fn row_rule(img: &[u16], table: Ruled, i: usize) -> Verdict
 }
 
 // The first wrong word of a table, row by row.
-pub fn rows(img: &[u16], table: Ruled, n: usize) -> Verdict
+fn rows(img: &[u16], table: Ruled, n: usize) -> Verdict
     requires { ⌜ Laid (now img) ⌝ }
     requires { ⌜ n ≤ rowsOf (now img) table ⌝ }
     ensures { λ r. ⌜ r ≡ each (rowRule (now (img .entry)) table) n 0 ⌝ }
@@ -180,6 +183,55 @@ pub fn rows(img: &[u16], table: Ruled, n: usize) -> Verdict
     let mut i: usize = 0;
     while i < n {
         let v = row_rule(img, table, i);
+        if is_wrong(v) {
+            return v;
+        }
+        i += 1;
+    }
+    Verdict::Good
+}
+
+// The tables that are walked at once, each by a loop of its own: a short table costs no more than its rows.
+pub fn prods(img: &[u16]) -> Verdict
+    requires { ⌜ Laid (now img) ⌝ }
+    ensures { λ r. ⌜ r ≡ each (rowRule (now (img .entry)) Prod) (productions (now (img .entry))) 0 ⌝ }
+{
+    let n = image::productions(img);
+    let mut i: usize = 0;
+    while i < n {
+        let v = prod_rule(img, i);
+        if is_wrong(v) {
+            return v;
+        }
+        i += 1;
+    }
+    Verdict::Good
+}
+
+pub fn classes(img: &[u16]) -> Verdict
+    requires { ⌜ Laid (now img) ⌝ }
+    ensures { λ r. ⌜ r ≡ each (rowRule (now (img .entry)) Class) (ranges (now (img .entry))) 0 ⌝ }
+{
+    let n = image::ranges(img);
+    let mut i: usize = 0;
+    while i < n {
+        let v = range_rule(img, i);
+        if is_wrong(v) {
+            return v;
+        }
+        i += 1;
+    }
+    Verdict::Good
+}
+
+pub fn groups(img: &[u16]) -> Verdict
+    requires { ⌜ Laid (now img) ⌝ }
+    ensures { λ r. ⌜ r ≡ each (rowRule (now (img .entry)) Group) (groups (now (img .entry))) 0 ⌝ }
+{
+    let n = image::groups(img);
+    let mut i: usize = 0;
+    while i < n {
+        let v = group_rule(img, i);
         if is_wrong(v) {
             return v;
         }

@@ -5,8 +5,6 @@ ghost use Rattle.pack.specs.Laid.{Laid};
 ghost use Rattle.order.specs.Shape.{each, sizeRule, parserRules, scannerRules, shape};
 use numbers::Verdict;
 use numbers::is_wrong;
-use order::Ruled;
-use pack::image;
 
 // The tables of the parser: layout, dom, prod, act and goto.
 fn parser_rules(img: &[u16]) -> Verdict
@@ -21,7 +19,7 @@ fn parser_rules(img: &[u16]) -> Verdict
     if is_wrong(dom) {
         return dom;
     }
-    let prod = exact::rows(img, Ruled::Prod, image::productions(img));
+    let prod = exact::prods(img);
     if is_wrong(prod) {
         return prod;
     }
@@ -37,7 +35,7 @@ fn scanner_rules(img: &[u16]) -> Verdict
     requires { ⌜ Laid (now img) ⌝ }
     ensures { λ r. ⌜ r ≡ scannerRules (now (img .entry)) ⌝ }
 {
-    let class = exact::rows(img, Ruled::Class, image::ranges(img));
+    let class = exact::classes(img);
     if is_wrong(class) {
         return class;
     }
@@ -49,7 +47,7 @@ fn scanner_rules(img: &[u16]) -> Verdict
     if is_wrong(scan) {
         return scan;
     }
-    exact::rows(img, Ruled::Group, image::groups(img))
+    exact::groups(img)
 }
 
 // The eight sizes of any words: all within their limits, or the place of the first that is not.

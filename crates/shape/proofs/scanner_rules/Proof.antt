@@ -1,26 +1,20 @@
 use borrow.Author.Needs.{needs}
 use mathlib.Core.Path.{refl}
-use native.Mathlib.Omega.{arith}
-use Rattle.order.specs.Rows.{rowsOf}
 use Rattle.order.proofs.Laws.{scanner-1, scanner-2, scanner-3, scanner-4}
 use Rattle.shape.proofs.scanner_rules.Statement.{statement}
 use Rattle.shape.proofs.scanner_rules.Tie as tie
 
-rows-requires : tie.Need-rows-requires
-unfolding rowsOf
-rows-requires c κs = (search needs, omega (arith, c .ranges .ensures))
-
 returns : tie.Need-returns
 returns c =
     let a = c .before .before in
-    scanner-1 _ (a .rows .ensures) (a .before .ranges .ensures) (c .before .is-wrong .ensures) (c .if1 .taken)
+    scanner-1 _ (a .classes .ensures) refl (c .before .is-wrong .ensures) (c .if1 .taken)
 
 returns-2 : tie.Need-returns-2
 returns-2 c =
     let b = c .before .before in
     let i = b .before in
     let a = i .before .before in
-    scanner-2 _ (a .rows .ensures) (a .before .ranges .ensures) (i .before .is-wrong .ensures) (i .if1 .left) (b .moves .ensures)
+    scanner-2 _ (a .classes .ensures) refl (i .before .is-wrong .ensures) (i .if1 .left) (b .moves .ensures)
     (c .before .is-wrong2 .ensures) (c .if2 .taken)
 
 returns-3 : tie.Need-returns-3
@@ -30,26 +24,22 @@ returns-3 c =
     let b = j .before .before in
     let i = b .before in
     let a = i .before .before in
-    scanner-3 _ (a .rows .ensures) (a .before .ranges .ensures) (i .before .is-wrong .ensures) (i .if1 .left) (b .moves .ensures)
+    scanner-3 _ (a .classes .ensures) refl (i .before .is-wrong .ensures) (i .if1 .left) (b .moves .ensures)
     (j .before .is-wrong2 .ensures) (j .if2 .left) (d .scans .ensures) refl (c .before .is-wrong3 .ensures) (c .if3 .taken)
-
-rows-requires-2 : tie.Need-rows-requires-2
-unfolding rowsOf
-rows-requires-2 c κs = (search needs, omega (arith, c .groups .ensures))
 
 returns-4 : tie.Need-returns-4
 returns-4 c =
-    let k = c .before .before in
+    let k = c .before in
     let d = k .before .before in
     let j = d .before in
     let b = j .before .before in
     let i = b .before in
     let a = i .before .before in
-    scanner-4 _ (a .rows .ensures) (a .before .ranges .ensures) (i .before .is-wrong .ensures) (i .if1 .left) (b .moves .ensures)
+    scanner-4 _ (a .classes .ensures) refl (i .before .is-wrong .ensures) (i .if1 .left) (b .moves .ensures)
     (j .before .is-wrong2 .ensures) (j .if2 .left) (d .scans .ensures) refl (k .before .is-wrong3 .ensures) (k .if3 .left)
-    (c .rows2 .ensures) (c .before .groups .ensures)
+    (c .groups .ensures) refl
 
 pub scanner-rules-spec : {M : Type 1} → statement M
 scanner-rules-spec =
     tie.close
-    (tie.spec (λ c κs. search needs) rows-requires (λ c κs. search needs) returns (λ c κs. search needs) (λ c κs. search needs) returns-2 (λ c κs. search needs) (λ c κs. search needs) returns-3 (λ c κs. search needs) rows-requires-2 returns-4)
+    (tie.spec (λ c κs. search needs) (λ c κs. search needs) returns (λ c κs. search needs) (λ c κs. search needs) returns-2 (λ c κs. search needs) (λ c κs. search needs) returns-3 (λ c κs. search needs) returns-4)
