@@ -121,7 +121,7 @@ pub struct Sizes {
 /// Which part of an image a word belongs to, with the numbers of its row and its column.
 #[derive(Clone, Copy, Debug, PartialEq, Eq, Hash)]
 pub enum Part {
-    /// Word 0, the number of the form.
+    /// Word 0, which is 1 whatever the form of the text.
     Form,
     /// A size: T, N, P, S, Q, C, R, G are 0 to 7.
     Size(usize),

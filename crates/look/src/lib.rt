@@ -120,7 +120,7 @@ fn choose(img: &[u16], set: u64, length: usize, at: Spot) -> Looked
     refused(numbers::DONE, length, t - 1, at)
 }
 
-// No token: what other terminal is there, code 8, or none, code 7.
+// No match: what other terminal is there, code 8, or none, code 7.
 fn rescan(img: &[u16], text: &[u8], allowance: usize, at: Spot) -> Looked
     requires { ⌜ Ready (now img) ⌝ }
     requires { ⌜ Within (now text) allowance at ⌝ }

@@ -1,4 +1,4 @@
--- Manual, section 1.2: the text forms. Lines, each ended by one LF, hold fields that are split by commas. The image has the same numbers
+-- Manual, sections 1.2 and 1.7: the text forms. Lines, each ended by one LF, hold fields that are split by commas. The image has the same numbers
 -- in the same order, so that one list of tables serves the reader and the writer, and both forms.
 use mathlib.Core.Bool.{Bool, true, false}
 use mathlib.Core.List.{List, [], _∷_, _++_}

@@ -1,4 +1,4 @@
--- Manual, sections 1.2 and 5.2: reading a pack text. It is refused by 2, 1, 4 and 3, in that order; the limits of the sizes and of len
+-- Manual, sections 1.2, 1.7 and 5.2: reading a pack text. It is refused by 2, 1, 4 and 3, in that order; the limits of the sizes and of len
 -- belong to the form of their lines. What is read are the bytes that are left; what has been read are the words of the image so far.
 use mathlib.Core.Bool.{Bool, true, false}
 use mathlib.Core.List.{List, [], _∷_, _++_}

@@ -1,4 +1,4 @@
--- Manual, sections 1.2 and 5.2: a move of a pack text from one form to another. It is refused by 2, 1 and 4 for the source, then by 2
+-- Manual, sections 1.7 and 5.2: a move of a pack text from one form to another. It is refused by 2, 1 and 4 for the source, then by 2
 -- and 3 for the target. A source of another form has a wrong first line.
 use mathlib.Core.Bool.{true, false}
 use mathlib.Core.List.{List}

@@ -1,4 +1,4 @@
--- Manual, sections 1.2 and 5.2: writing a pack text in one form or the other. It is refused by 4, 2 and 3, in that order.
+-- Manual, sections 1.2, 1.7 and 5.2: writing a pack text in one form or the other. It is refused by 4, 2 and 3, in that order.
 use mathlib.Core.Bool.{Bool, true, false}
 use mathlib.Core.List.{List, [], _∷_, _++_}
 use Prim.Native.Nat.{ℕ, zero, suc, _+_, _*_}

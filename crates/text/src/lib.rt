@@ -1,4 +1,4 @@
-// The text form of a pack: what its definitions speak of, and the list of tables, for the reader and the writer.
+// The text forms of a pack: what its definitions speak of, and the list of tables, for the reader and the writer.
 use pack::image;
 ghost use mathlib.Core.Path.{_≡_};
 ghost use mathlib.Core.List.{List};
