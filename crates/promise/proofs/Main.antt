@@ -31,7 +31,7 @@ use Rattle.look.specs.declared.Spot.{Spot}
 use Rattle.look.specs.declared.Looked.{Looked}
 use Rattle.records.specs.declared.Parsed.{Parsed}
 use Rattle.parse.specs.Leaf.{part}
-use Rattle.parse.specs.Parse.{recordWords, leafRecord, run, start, parse, treeAfter}
+use Rattle.parse.specs.Parse.{recordWords, leafRecord, Ending, run, start, parse, treeAfter}
 use Rattle.promise.specs.Cover.{RightLeaf, Blank, Covers}
 use Rattle.promise.specs.Refusal.{Outdone}
 use Rattle.promise.specs.Promised.{Accepted, Refused, Given, Promised, Halts, Own, Alike}
@@ -237,7 +237,7 @@ module _ (img : List ℕ) (passes : Passes img) (text : List ℕ) where
   operator-read = Together.operator-read img passes text
 
   -- Where a leaf is right, alone or chosen by a group, no layout is skipped; every right look reads it, unless the allowance is used up; and
-  -- where the tables come there and shift it, it is a leaf of the derivation.
+  -- where the tables come there and shift it, it is a leaf of the derivation, and is kept by a parse that is refused further on.
   pub nothing-skipped : {terminal begin n size state : ℕ} → RightLeaf img text terminal begin size state → Blank img text state begin n → ⊥
   nothing-skipped = Together.nothing-skipped img passes text
 
@@ -249,6 +249,11 @@ module _ (img : List ℕ) (passes : Passes img) (text : List ℕ) where
       → RightLeaf img text terminal begin size state → act img state terminal ≡ 2 + 2 * v → Accepted img text all-words
       → (rest : List ℕ) × (all-words ≡ (words ++ leafRecord terminal begin size state) ++ rest)
   leaf-derived = Together.leaf-derived img passes text
+
+  pub leaf-kept : {terminal begin size state : ℕ} {below words : List ℕ} (v : ℕ) → Way img text (reached (state ∷ below) words begin)
+      → RightLeaf img text terminal begin size state → act img state terminal ≡ 2 + 2 * v → {e : Ending} → Refused img text e → begin < e .parsed .place
+      → (rest : List ℕ) × (e .words ≡ (words ++ leafRecord terminal begin size state) ++ rest)
+  leaf-kept = Together.leaf-kept img passes text
 
 -- Such operators are there: `//=` is one, where a comment begins with `//`.
 pub slashes-longest : Longest slashes slashesText 1 0 3 0

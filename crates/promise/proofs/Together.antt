@@ -1,13 +1,13 @@
 -- Layout does not win by coming first, for all packs that pass: neither a piece of layout nor a leaf is shorter than another match
 -- there; and where an operator and a comment begin alike, and the operator is allowed and longer, the operator is read. Assumes nothing.
-use mathlib.Core.Path.{_≡_, refl, sym, ap, _∙_}
+use mathlib.Core.Path.{_≡_, refl}
 use mathlib.Core.Bool.{Bool, true, false}
 use mathlib.Core.Logic.{_⊎_, inl, inr}
-use mathlib.Core.List.{List, [], _∷_, _++_, append-nil}
+use mathlib.Core.List.{List, _∷_, _++_}
 use Prim.Native.Nat.{ℕ, zero, suc, _+_, _*_, _<_, _≤_}
 use native.Mathlib.Omega.{arith}
 use lib.Dec.{eqb}
-use lib.ListN.{length, drop}
+use lib.ListN.{length, drop, length-drop}
 use lib.Bits.{bitAnd, and-le-l}
 use borrow.Author.Tests.{eqb-true, eqb-false}
 use Rattle.sets.specs.Sets.{has, meet}
@@ -22,17 +22,17 @@ use Rattle.scan.proofs.Longest.{accepted-alone}
 use Rattle.look.specs.declared.Spot.{Spot}
 use Rattle.look.specs.declared.Looked.{Looked}
 use Rattle.parse.specs.Leaf.{part}
-use Rattle.parse.specs.Parse.{leafRecord}
+use Rattle.parse.specs.Parse.{leafRecord, Ending}
 use Rattle.promise.specs.Cover.{alone, RightLeaf, Blank, Blanks, none, more}
 use Rattle.promise.specs.Refusal.{at-end, instead}
-use Rattle.promise.specs.Promised.{Accepted}
+use Rattle.promise.specs.Promised.{Accepted, Refused}
 use Rattle.promise.specs.RightLook.{Sees, RightLook}
 use Rattle.promise.specs.RightLook as Sight
 use Rattle.promise.specs.Together.{Competes, allowed, as-layout, Longest, Reads, finds, cut-short}
-use Rattle.promise.specs.Way.{Reached, reached, shifts, Way, on}
+use Rattle.promise.specs.Way.{Reached, reached, shifts, Way}
 use Rattle.promise.proofs.Matching.{some-matched, matched-below}
 use Rattle.promise.proofs.Others.{not-layout}
-use Rattle.promise.proofs.Ways.{Onward, further, along, one-end, one-terminal, no-blank, no-match, no-bytes, accepts-stops}
+use Rattle.promise.proofs.Ways.{Onward, same, next, further, along, one-step, one-terminal, no-blank, no-match, no-bytes}
 use Rattle.promise.proofs.Letter.{no-shorter}
 
 -- What competes is what is scanned for.
@@ -163,19 +163,26 @@ module _ (img : List ℕ) (passes : Passes img) (text : List ℕ) where
       → Longest img text operator (at .place) size s → Reads operator (at .place) size (looks s at)
   operator-read right at fits o = leaf-read right at fits (longest-right o)
 
-  -- And where the tables come there and shift it, it is a leaf of every derivation.
+  -- Where the tables come there and shift it, its record is kept by every way that leads on past its start.
+  kept-on : {t start size s : ℕ} {below words : List ℕ} (v : ℕ) → Way img text (reached (s ∷ below) words start) → RightLeaf img text t start size s
+      → act img s t ≡ 2 + 2 * v → {b : Reached} → Way img text b → start < b .place → (rest : List ℕ) × (b .words ≡ (words ++ leafRecord t start size s) ++ rest)
+  kept-on {t} {start} {size} {s} {below} {words} v way r e w l = go l (along img (passes .good) text way w)
+    where
+      go : {b : Reached} → start < b .place → Onward img text (reached (s ∷ below) words start) b ⊎ Onward img text b (reached (s ∷ below) words start)
+          → (rest : List ℕ) × (b .words ≡ (words ++ leafRecord t start size s) ++ rest)
+      go k (inl same) = absurd (omega (arith, k))
+      go k (inl (next z o)) =
+          let f = further (rw (one-step img (passes .good) text z (shifts t size v r e)) at o) in
+          (f .more-words, f .front)
+      go k (inr o) = absurd (omega (arith, k, further o .no-less))
+
+  -- So it is a leaf of every derivation, and of the trees of every parse that is refused further on.
   pub leaf-derived : {t start size s : ℕ} {below words all : List ℕ} (v : ℕ) → Way img text (reached (s ∷ below) words start) → RightLeaf img text t start size s
       → act img s t ≡ 2 + 2 * v → Accepted img text all → (rest : List ℕ) × (all ≡ (words ++ leafRecord t start size s) ++ rest)
-  leaf-derived {t} {start} {size} {s} {below} {words} {all} v way r e a = go (along img (passes .good) text (a .way) (on way (shifts t size v r e)))
-    where
-      after : Reached
-      after = reached (v ∷ s ∷ below) (words ++ leafRecord t start size s) (start + size)
+  leaf-derived {start = start} v way r e a =
+      kept-on v way r e (a .way) (omega (arith, r .right .some, r .right .last .within, length-drop start text))
 
-      end : Reached
-      end = reached (a .final ∷ 0 ∷ []) all (length text)
-
-      go : Onward img text end after ⊎ Onward img text after end → (rest : List ℕ) × (all ≡ (words ++ leafRecord t start size s) ++ rest)
-      go (inl x) =
-          let z = one-end x (accepts-stops img (passes .good) text (omega arith) (a .accepts)) in
-          ([], ap (λ (k : Reached). k .words) z ∙ sym (append-nil (words ++ leafRecord t start size s)))
-      go (inr x) = let f = further x in (f .more-words, f .front)
+  pub leaf-kept : {t start size s : ℕ} {below words : List ℕ} (v : ℕ) → Way img text (reached (s ∷ below) words start) → RightLeaf img text t start size s
+      → act img s t ≡ 2 + 2 * v → {e : Ending} → Refused img text e → start < e .parsed .place
+      → (rest : List ℕ) × (e .words ≡ (words ++ leafRecord t start size s) ++ rest)
+  leaf-kept v way r e refused l = kept-on v way r e (refused .way) l

@@ -166,7 +166,7 @@ module _ (img : List ℕ) (good : shape img ≡ Good) where
     one-token (end-of-text l) (end-of-text k) = refl
 
     -- One step.
-    one-step : {a b c : Reached} → Acts img text a b → Acts img text a c → b ≡ c
+    pub one-step : {a b c : Reached} → Acts img text a b → Acts img text a c → b ≡ c
     one-step {a} (skips n x) (skips m y) = ap (λ (k : ℕ). reached (a .stack) (a .words) (a .place + k)) (one-last (x .right .last) (y .right .last))
     one-step (skips n x) (shifts t m v r e) = absurd (no-blank r x)
     one-step (skips n x) (reduces t p v k e l g) = absurd (no-blank-token k x)
