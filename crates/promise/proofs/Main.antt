@@ -29,6 +29,7 @@ use Rattle.text.proofs.RoundTrip as Text
 use Rattle.text.proofs.Reform as Reform
 use Rattle.look.specs.declared.Spot.{Spot}
 use Rattle.look.specs.declared.Looked.{Looked}
+use Rattle.look.specs.Look.{look}
 use Rattle.records.specs.declared.Parsed.{Parsed}
 use Rattle.parse.specs.Leaf.{part}
 use Rattle.parse.specs.Parse.{recordWords, leafRecord, Ending, run, start, parse, treeAfter}
@@ -46,6 +47,8 @@ use Rattle.promise.proofs.Records as Records
 use Rattle.promise.proofs.Promised as Third
 use Rattle.promise.proofs.Entry as Entry
 use Rattle.promise.proofs.Letter as Letter
+use Rattle.promise.proofs.Looks.{Any}
+use Rattle.promise.proofs.Looks as Looks
 use Rattle.promise.proofs.One as One
 use Rattle.promise.proofs.Slashes as Slashes
 use Rattle.promise.proofs.Together as Together
@@ -197,6 +200,10 @@ pub promised-run : (img : List ℕ) → Passes img → (text : List ℕ) {Fits :
     → (room : ℕ) → Promised img text (run img looks room start)
 promised-run = Third.promised-run
 
+-- The look that the parse runs with is one, whatever the allowance: it asks nothing of state and spot.
+pub right-look : (img : List ℕ) → Passes img → (text : List ℕ) (allowance : ℕ) → RightLook img text Any (look img text allowance)
+right-look = Looks.right-look
+
 -- The longest match over all terminals, filtered afterwards, is not right; nor is a token kept across a reduction; nor layout skipped first.
 pub filtered-is-wrong : {Fits : ℕ → Spot → Type 0} → RightLook tiny tinyText Fits filtered → ⊥
 filtered-is-wrong = Wrong.filtered-is-wrong
@@ -255,9 +262,13 @@ module _ (img : List ℕ) (passes : Passes img) (text : List ℕ) where
       → (rest : List ℕ) × (e .words ≡ (words ++ leafRecord terminal begin size state) ++ rest)
   leaf-kept = Together.leaf-kept img passes text
 
--- Such operators are there: `//=` is one, where a comment begins with `//`.
+-- Such operators are there: `//=` is one, where a comment begins with `//`; and the look that the parse runs with reads it, unless the
+-- allowance is used up.
 pub slashes-longest : Longest slashes slashesText 1 0 3 0
 slashes-longest = Slashes.slashes-longest
+
+pub slashes-read : (allowance : ℕ) → Reads 1 0 3 (look slashes slashesText allowance 0 (start .at))
+slashes-read = Slashes.slashes-read
 
 -- ---- the marked cases, one table
 
