@@ -38,15 +38,15 @@ fn walk_edges(img: &[u16], from: &[u64; 256], on: &[u64; 256], goes: &[u64; 256]
     requires { ⌜ Goers (now img) (states (now img)) (now goes) ⌝ }
     ensures { λ r. ⌜ r ≡ firstFailing (now (img .entry)) (c4 ∷ c5 ∷ c6 ∷ []) ⌝ }
 {
-    let f4 = parsecheck::find_k4(img, on);
+    let f4 = edgecheck::find_k4(img, on);
     if conditions::fails(f4) {
         return answer(4, f4);
     }
-    let f5 = parsecheck::find_k5(img, from, on, goes);
+    let f5 = backcheck::find_k5(img, from, on, goes);
     if conditions::fails(f5) {
         return answer(5, f5);
     }
-    answer(6, parsecheck::find_k6(img, from, on))
+    answer(6, edgecheck::find_k6(img, from, on))
 }
 
 // K4 to K6: the edges are worked out once.
@@ -68,15 +68,15 @@ fn conditions(img: &[u16]) -> Checked
     requires { ⌜ shape (now img) ≡ Good ⌝ }
     ensures { λ r. ⌜ r ≡ firstFailing (now (img .entry)) plain ⌝ }
 {
-    let f1 = scancheck::find_k1(img);
+    let f1 = rankcheck::find_k1(img);
     if conditions::fails(f1) {
         return answer(1, f1);
     }
-    let f2 = scancheck::find_k2(img);
+    let f2 = posscheck::find_k2(img);
     if conditions::fails(f2) {
         return answer(2, f2);
     }
-    let f3 = scancheck::find_k3(img);
+    let f3 = groupcheck::find_k3(img);
     if conditions::fails(f3) {
         return answer(3, f3);
     }
