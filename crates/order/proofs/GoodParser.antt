@@ -7,8 +7,8 @@ use native.Mathlib.Omega.{arith}
 use lib.Dec.{eqb, leb, ltb}
 use borrow.Author.Tests.{leb-true, ltb-true, eqb-true, eqb-false}
 use Rattle.sets.specs.Sets.{has, member, lacks}
-use Rattle.pack.specs.declared.Action.{Action}
-use Rattle.pack.specs.declared.Action.the-variants.{Error, Accept, Shift, Reduce}
+use Rattle.words.specs.declared.Action.{Action}
+use Rattle.words.specs.declared.Action.the-variants.{Error, Accept, Shift, Reduce}
 use Rattle.pack.specs.Image.{mostSymbols, terminals, nonterminals, productions, states, groups, layout, lhs, len, act, actionOf, goto, groupSet, chosen}
 use Rattle.numbers.specs.declared.Verdict.the-variants.{Good}
 use Rattle.order.specs.Shape.{each, parserRules, scannerRules, prodRule, actRule, cellRule, gotoRules, groupRule, shape}

@@ -8,7 +8,7 @@ use native.Mathlib.Omega.{arith}
 use lib.Pow.{pow-add, pow-mono, pow-lt}
 use Rattle.sets.specs.Sets.{has, single}
 use Rattle.sets.proofs.Laws.{has-none, has-zero, has-suc}
-use Rattle.pack.specs.Image.{terminals, act, validFrom, validSet}
+use Rattle.words.specs.Image.{terminals, act, validFrom, validSet}
 
 module _ (img : List ℕ) (s : ℕ) where
   -- What the columns from t on give is below the bit after them.

@@ -1,363 +1,67 @@
-// Each number of the image by its name, where it stands, and how many words a thing takes. The functions are inner ones: they ask for
-// an image that is laid out as its sizes say.
+// Each number of the image by its name. The functions are inner ones: they ask for an image that is laid out as its sizes say. Passed on: the
+// words and sizes, and the places.
 ghost use mathlib.Core.Path.{_≡_};
-ghost use Prim.Native.Nat.{_+_, _*_, _<_, _≤_};
-ghost use lib.ListN.{length};
-ghost use Rattle.pack.specs.Image.{word, setWords, headWords, mostSymbols, productionWords, rangeWords, scanWords, groupWords, setAt, terminals, nonterminals, productions, states, scanStates, classes, ranges, groups, mostTerminals, leastSize, greatestSize, prodStart, actStart, gotoStart, classStart, moveStart, scanStart, groupStart, needed, domAt, prodAt, lenAt, symbolAt, actAt, gotoAt, rangeAt, hiAt, rangeClassAt, moveAt, scanAt, rejAt, possAt, groupAt, chosenAt, layout, dom, lhs, len, symbol, act, goto, move, lo, hi, rangeClass, acc, rej, poss, groupSet, chosen, validSet};
-ghost use Rattle.pack.specs.Laid.{Sized, Laid};
+ghost use Prim.Native.Nat.{_+_, _<_};
+ghost use Rattle.words.specs.Image.{mostSymbols, terminals, nonterminals, productions, states, scanStates, classes, ranges, groups, mostTerminals, layout, dom, lhs, len, symbol, act, goto, move, lo, hi, rangeClass, acc, rej, poss, groupSet, chosen, validSet};
+ghost use Rattle.words.specs.Laid.{Laid};
 ghost use Rattle.sets.specs.Sets.{single};
-
-// How many words a thing takes in the image.
-pub const SET_WORDS: usize = 4;
-
-pub const SIZE_WORDS: usize = 8;
-
-pub const HEAD_WORDS: usize = 1 + SIZE_WORDS;
-
-pub const MOST_SYMBOLS: usize = 14;
-
-pub const PRODUCTION_WORDS: usize = 2 + MOST_SYMBOLS;
-
-pub const RANGE_WORDS: usize = 3;
-
-pub const SCAN_WORDS: usize = 3 * SET_WORDS;
-
-pub const GROUP_WORDS: usize = SET_WORDS + 1;
-
-// The most that each size may be.
-pub const MOST_TERMINALS: usize = 64;
-
-pub const MOST_NONTERMINALS: usize = 32;
-
-pub const MOST_PRODUCTIONS: usize = 128;
-
-pub const MOST_PARSE_STATES: usize = 128;
-
-pub const MOST_SCAN_STATES: usize = 128;
-
-pub const MOST_CLASSES: usize = 32;
-
-pub const MOST_RANGES: usize = 64;
-
-pub const MOST_GROUPS: usize = 32;
-
-// The least and the most of the sizes, by their word.
-const LEAST_SIZES: [usize; HEAD_WORDS] = [0, 1, 1, 1, 1, 1, 1, 0, 0];
-
-const GREATEST_SIZES: [usize; HEAD_WORDS] = [
-    0,
-    MOST_TERMINALS,
-    MOST_NONTERMINALS,
-    MOST_PRODUCTIONS,
-    MOST_PARSE_STATES,
-    MOST_SCAN_STATES,
-    MOST_CLASSES,
-    MOST_RANGES,
-    MOST_GROUPS,
-];
-
-// The words of the largest image.
-pub const LARGEST_IMAGE: usize = 20589;
-
-// Where the layout set stands, and where the table of what outranks a terminal begins.
-pub const LAYOUT_AT: usize = HEAD_WORDS;
-
-pub const DOM_START: usize = LAYOUT_AT + SET_WORDS;
-
-// The symbol number of nonterminal 0.
-pub const FIRST_NONTERMINAL: usize = 64;
-
-// How many bytes there are, and the greatest.
-pub const BYTE_COUNT: usize = 256;
-
-pub const GREATEST_BYTE: usize = BYTE_COUNT - 1;
-
-fn wide(x: u16) -> usize
-    ensures { λ r. ⌜ r ≡ x ⌝ }
-{
-    x as usize
-}
-
-// Four words, lowest first, as one set.
-fn join(a: u16, b: u16, c: u16, d: u16) -> u64
-    ensures { λ r. ⌜ r ≡ a + b * 65536 + c * 4294967296 + d * 281474976710656 ⌝ }
-{
-    (a as u64) + (b as u64) * 65536 + (c as u64) * 4294967296 + (d as u64) * 281474976710656
-}
-
-// The word at a place.
-pub fn word_at(img: &[u16], i: usize) -> usize
-    requires { ⌜ i < length (now img) ⌝ }
-    ensures { λ r. ⌜ r ≡ word (now (img .entry)) i ⌝ }
-{
-    wide(img[i])
-}
-
-// The set whose first word stands at a place.
-pub fn set_at(img: &[u16], i: usize) -> u64
-    requires { ⌜ i + setWords ≤ length (now img) ⌝ }
-    ensures { λ r. ⌜ r ≡ setAt (now (img .entry)) i ⌝ }
-{
-    join(img[i], img[i + 1], img[i + 2], img[i + 3])
-}
-
-// The least and the most of the size at word i.
-pub fn least_size(i: usize) -> usize
-    requires { ⌜ i < headWords ⌝ }
-    ensures { λ r. ⌜ r ≡ leastSize i ⌝ }
-{
-    LEAST_SIZES[i]
-}
-
-pub fn greatest_size(i: usize) -> usize
-    requires { ⌜ i < headWords ⌝ }
-    ensures { λ r. ⌜ r ≡ greatestSize i ⌝ }
-{
-    GREATEST_SIZES[i]
-}
-
-// T, N, P, S, Q, C, R and G.
-pub fn terminals(img: &[u16]) -> usize
-    requires { ⌜ headWords ≤ length (now img) ⌝ }
-    ensures { λ r. ⌜ r ≡ terminals (now (img .entry)) ⌝ }
-{
-    word_at(img, 1)
-}
-
-pub fn nonterminals(img: &[u16]) -> usize
-    requires { ⌜ headWords ≤ length (now img) ⌝ }
-    ensures { λ r. ⌜ r ≡ nonterminals (now (img .entry)) ⌝ }
-{
-    word_at(img, 2)
-}
-
-pub fn productions(img: &[u16]) -> usize
-    requires { ⌜ headWords ≤ length (now img) ⌝ }
-    ensures { λ r. ⌜ r ≡ productions (now (img .entry)) ⌝ }
-{
-    word_at(img, 3)
-}
-
-pub fn states(img: &[u16]) -> usize
-    requires { ⌜ headWords ≤ length (now img) ⌝ }
-    ensures { λ r. ⌜ r ≡ states (now (img .entry)) ⌝ }
-{
-    word_at(img, 4)
-}
-
-pub fn scan_states(img: &[u16]) -> usize
-    requires { ⌜ headWords ≤ length (now img) ⌝ }
-    ensures { λ r. ⌜ r ≡ scanStates (now (img .entry)) ⌝ }
-{
-    word_at(img, 5)
-}
-
-pub fn classes(img: &[u16]) -> usize
-    requires { ⌜ headWords ≤ length (now img) ⌝ }
-    ensures { λ r. ⌜ r ≡ classes (now (img .entry)) ⌝ }
-{
-    word_at(img, 6)
-}
-
-pub fn ranges(img: &[u16]) -> usize
-    requires { ⌜ headWords ≤ length (now img) ⌝ }
-    ensures { λ r. ⌜ r ≡ ranges (now (img .entry)) ⌝ }
-{
-    word_at(img, 7)
-}
-
-pub fn groups(img: &[u16]) -> usize
-    requires { ⌜ headWords ≤ length (now img) ⌝ }
-    ensures { λ r. ⌜ r ≡ groups (now (img .entry)) ⌝ }
-{
-    word_at(img, 8)
-}
-
-// Where each table begins.
-pub fn prod_start(img: &[u16]) -> usize
-    requires { ⌜ Sized (now img) ⌝ }
-    ensures { λ r. ⌜ r ≡ prodStart (now (img .entry)) ⌝ }
-{
-    DOM_START + terminals(img) * SET_WORDS
-}
-
-pub fn act_start(img: &[u16]) -> usize
-    requires { ⌜ Sized (now img) ⌝ }
-    ensures { λ r. ⌜ r ≡ actStart (now (img .entry)) ⌝ }
-{
-    prod_start(img) + productions(img) * PRODUCTION_WORDS
-}
-
-pub fn goto_start(img: &[u16]) -> usize
-    requires { ⌜ Sized (now img) ⌝ }
-    ensures { λ r. ⌜ r ≡ gotoStart (now (img .entry)) ⌝ }
-{
-    act_start(img) + states(img) * terminals(img)
-}
-
-pub fn class_start(img: &[u16]) -> usize
-    requires { ⌜ Sized (now img) ⌝ }
-    ensures { λ r. ⌜ r ≡ classStart (now (img .entry)) ⌝ }
-{
-    goto_start(img) + states(img) * nonterminals(img)
-}
-
-pub fn move_start(img: &[u16]) -> usize
-    requires { ⌜ Sized (now img) ⌝ }
-    ensures { λ r. ⌜ r ≡ moveStart (now (img .entry)) ⌝ }
-{
-    class_start(img) + ranges(img) * RANGE_WORDS
-}
-
-pub fn scan_start(img: &[u16]) -> usize
-    requires { ⌜ Sized (now img) ⌝ }
-    ensures { λ r. ⌜ r ≡ scanStart (now (img .entry)) ⌝ }
-{
-    move_start(img) + scan_states(img) * classes(img)
-}
-
-pub fn group_start(img: &[u16]) -> usize
-    requires { ⌜ Sized (now img) ⌝ }
-    ensures { λ r. ⌜ r ≡ groupStart (now (img .entry)) ⌝ }
-{
-    scan_start(img) + scan_states(img) * SCAN_WORDS
-}
-
-// How long the image must be.
-pub fn needed(img: &[u16]) -> usize
-    requires { ⌜ Sized (now img) ⌝ }
-    ensures { λ r. ⌜ r ≡ needed (now (img .entry)) ⌝ }
-{
-    group_start(img) + groups(img) * GROUP_WORDS
-}
-
-// Where the entries stand. What is given back is within the image with all that belongs to it.
-pub fn dom_at(t: usize) -> usize
-    requires { ⌜ t < mostTerminals ⌝ }
-    ensures { λ r. ⌜ r ≡ domAt t ⌝ }
-{
-    DOM_START + t * SET_WORDS
-}
-
-pub fn prod_at(img: &[u16], p: usize) -> usize
-    requires { ⌜ Laid (now img) ⌝ }
-    requires { ⌜ p < productions (now img) ⌝ }
-    ensures { λ r. ⌜ (r ≡ prodAt (now (img .entry)) p) × (r + productionWords ≤ length (now (img .entry))) ⌝ }
-{
-    prod_start(img) + p * PRODUCTION_WORDS
-}
-
-pub fn len_at(img: &[u16], p: usize) -> usize
-    requires { ⌜ Laid (now img) ⌝ }
-    requires { ⌜ p < productions (now img) ⌝ }
-    ensures { λ r. ⌜ (r ≡ lenAt (now (img .entry)) p) × (r < length (now (img .entry))) ⌝ }
-{
-    prod_at(img, p) + 1
-}
-
-pub fn symbol_at(img: &[u16], p: usize, i: usize) -> usize
-    requires { ⌜ Laid (now img) ⌝ }
-    requires { ⌜ (p < productions (now img)) × (i < mostSymbols) ⌝ }
-    ensures { λ r. ⌜ (r ≡ symbolAt (now (img .entry)) p i) × (r < length (now (img .entry))) ⌝ }
-{
-    prod_at(img, p) + 2 + i
-}
-
-// The place of a row and a column in a table.
-fn cell_at(img: &[u16], start: usize, width: usize, row: usize, column: usize) -> usize
-    requires { ⌜ start + (row * width + column) < length (now img) ⌝ }
-    ensures { λ r. ⌜ (r ≡ start + (row * width + column)) × (r < length (now (img .entry))) ⌝ }
-{
-    start + (row * width + column)
-}
-
-pub fn act_at(img: &[u16], s: usize, t: usize) -> usize
-    requires { ⌜ Laid (now img) ⌝ }
-    requires { ⌜ (s < states (now img)) × (t < terminals (now img)) ⌝ }
-    ensures { λ r. ⌜ (r ≡ actAt (now (img .entry)) s t) × (r < length (now (img .entry))) ⌝ }
-{
-    cell_at(img, act_start(img), terminals(img), s, t)
-}
-
-pub fn goto_at(img: &[u16], s: usize, n: usize) -> usize
-    requires { ⌜ Laid (now img) ⌝ }
-    requires { ⌜ (s < states (now img)) × (n < nonterminals (now img)) ⌝ }
-    ensures { λ r. ⌜ (r ≡ gotoAt (now (img .entry)) s n) × (r < length (now (img .entry))) ⌝ }
-{
-    cell_at(img, goto_start(img), nonterminals(img), s, n)
-}
-
-pub fn range_at(img: &[u16], r: usize) -> usize
-    requires { ⌜ Laid (now img) ⌝ }
-    requires { ⌜ r < ranges (now img) ⌝ }
-    ensures { λ x. ⌜ (x ≡ rangeAt (now (img .entry)) r) × (x + rangeWords ≤ length (now (img .entry))) ⌝ }
-{
-    class_start(img) + r * RANGE_WORDS
-}
-
-pub fn hi_at(img: &[u16], r: usize) -> usize
-    requires { ⌜ Laid (now img) ⌝ }
-    requires { ⌜ r < ranges (now img) ⌝ }
-    ensures { λ x. ⌜ (x ≡ hiAt (now (img .entry)) r) × (x < length (now (img .entry))) ⌝ }
-{
-    range_at(img, r) + 1
-}
-
-pub fn range_class_at(img: &[u16], r: usize) -> usize
-    requires { ⌜ Laid (now img) ⌝ }
-    requires { ⌜ r < ranges (now img) ⌝ }
-    ensures { λ x. ⌜ (x ≡ rangeClassAt (now (img .entry)) r) × (x < length (now (img .entry))) ⌝ }
-{
-    range_at(img, r) + 2
-}
-
-pub fn move_at(img: &[u16], q: usize, c: usize) -> usize
-    requires { ⌜ Laid (now img) ⌝ }
-    requires { ⌜ (q < scanStates (now img)) × (c < classes (now img)) ⌝ }
-    ensures { λ r. ⌜ (r ≡ moveAt (now (img .entry)) q c) × (r < length (now (img .entry))) ⌝ }
-{
-    cell_at(img, move_start(img), classes(img), q, c)
-}
-
-pub fn scan_at(img: &[u16], q: usize) -> usize
-    requires { ⌜ Laid (now img) ⌝ }
-    requires { ⌜ q < scanStates (now img) ⌝ }
-    ensures { λ r. ⌜ (r ≡ scanAt (now (img .entry)) q) × (r + scanWords ≤ length (now (img .entry))) ⌝ }
-{
-    scan_start(img) + q * SCAN_WORDS
-}
-
-pub fn rej_at(img: &[u16], q: usize) -> usize
-    requires { ⌜ Laid (now img) ⌝ }
-    requires { ⌜ q < scanStates (now img) ⌝ }
-    ensures { λ r. ⌜ (r ≡ rejAt (now (img .entry)) q) × (r + setWords ≤ length (now (img .entry))) ⌝ }
-{
-    scan_at(img, q) + SET_WORDS
-}
-
-pub fn poss_at(img: &[u16], q: usize) -> usize
-    requires { ⌜ Laid (now img) ⌝ }
-    requires { ⌜ q < scanStates (now img) ⌝ }
-    ensures { λ r. ⌜ (r ≡ possAt (now (img .entry)) q) × (r + setWords ≤ length (now (img .entry))) ⌝ }
-{
-    scan_at(img, q) + 2 * SET_WORDS
-}
-
-pub fn group_at(img: &[u16], g: usize) -> usize
-    requires { ⌜ Laid (now img) ⌝ }
-    requires { ⌜ g < groups (now img) ⌝ }
-    ensures { λ r. ⌜ (r ≡ groupAt (now (img .entry)) g) × (r + groupWords ≤ length (now (img .entry))) ⌝ }
-{
-    group_start(img) + g * GROUP_WORDS
-}
-
-pub fn chosen_at(img: &[u16], g: usize) -> usize
-    requires { ⌜ Laid (now img) ⌝ }
-    requires { ⌜ g < groups (now img) ⌝ }
-    ensures { λ r. ⌜ (r ≡ chosenAt (now (img .entry)) g) × (r < length (now (img .entry))) ⌝ }
-{
-    group_at(img, g) + SET_WORDS
-}
+pub use places::act_at;
+pub use places::chosen_at;
+pub use places::dom_at;
+pub use places::goto_at;
+pub use places::group_at;
+pub use places::hi_at;
+pub use places::len_at;
+pub use places::move_at;
+pub use places::poss_at;
+pub use places::prod_at;
+pub use places::range_at;
+pub use places::range_class_at;
+pub use places::rej_at;
+pub use places::scan_at;
+pub use places::starts::act_start;
+pub use places::starts::class_start;
+pub use places::starts::goto_start;
+pub use places::starts::group_start;
+pub use places::starts::move_start;
+pub use places::starts::needed;
+pub use places::starts::prod_start;
+pub use places::starts::scan_start;
+pub use places::symbol_at;
+pub use words::BYTE_COUNT;
+pub use words::DOM_START;
+pub use words::FIRST_NONTERMINAL;
+pub use words::GREATEST_BYTE;
+pub use words::GROUP_WORDS;
+pub use words::HEAD_WORDS;
+pub use words::LARGEST_IMAGE;
+pub use words::LAYOUT_AT;
+pub use words::MOST_CLASSES;
+pub use words::MOST_GROUPS;
+pub use words::MOST_NONTERMINALS;
+pub use words::MOST_PARSE_STATES;
+pub use words::MOST_PRODUCTIONS;
+pub use words::MOST_RANGES;
+pub use words::MOST_SCAN_STATES;
+pub use words::MOST_SYMBOLS;
+pub use words::MOST_TERMINALS;
+pub use words::PRODUCTION_WORDS;
+pub use words::RANGE_WORDS;
+pub use words::SCAN_WORDS;
+pub use words::SET_WORDS;
+pub use words::SIZE_WORDS;
+pub use words::classes;
+pub use words::greatest_size;
+pub use words::groups;
+pub use words::least_size;
+pub use words::nonterminals;
+pub use words::productions;
+pub use words::ranges;
+pub use words::scan_states;
+pub use words::set_at;
+pub use words::states;
+pub use words::terminals;
+pub use words::word_at;
 
 // What stands there.
 pub fn layout(img: &[u16]) -> u64

@@ -10,8 +10,8 @@ use lib.ListN.{length, drop, length-append}
 use borrow.Author.Tests.{ltb-true, ltb-false}
 use Rattle.numbers.specs.Codes.{done, mostStates, queryTooLong, wrongShape, longestText}
 use Rattle.numbers.specs.Front.{front}
-use Rattle.pack.specs.declared.Action.{Action}
-use Rattle.pack.specs.declared.Action.the-variants.{Error, Accept, Shift, Reduce}
+use Rattle.words.specs.declared.Action.{Action}
+use Rattle.words.specs.declared.Action.the-variants.{Error, Accept, Shift, Reduce}
 use Rattle.pack.specs.Image.{act, actionOf, goto, lhs, len}
 use Rattle.numbers.specs.declared.Verdict.{Verdict}
 use Rattle.numbers.specs.declared.Verdict.the-variants.{Good, Wrong}

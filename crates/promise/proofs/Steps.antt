@@ -10,7 +10,7 @@ use borrow.Author.Tests.{lt-ltb}
 use Rattle.sets.specs.Sets.{has}
 use Rattle.sets.proofs.Laws.{has-lt}
 use Rattle.numbers.specs.Codes.{done, noTerminal, unexpected, noGroup, stuck, allowanceUsedUp}
-use Rattle.pack.specs.declared.Action.{Action}
+use Rattle.words.specs.declared.Action.{Action}
 use Rattle.pack.specs.Image.{terminals, states, productions, validSet, act, actionOf, endOfText}
 use Rattle.pack.proofs.Valid.{valid-cell}
 use Rattle.shape.proofs.Good.{good-laid}

@@ -10,8 +10,8 @@ use lib.Seq.{sets-eq, set-split, length-take-le, take-at, drop-at, drop-drop, ge
 use native.Mathlib.Nat.{add-zero}
 use lib.Dec.{eqb, leb, ltb}
 use borrow.Author.Tests.{eq-eqb, ne-eqb, le-leb, lt-leb, lt-ltb, le-ltb, leb-true, leb-false, eqb-true, eqb-false}
-use Rattle.pack.specs.declared.Action.{Action}
-use Rattle.pack.specs.declared.Action.the-variants.{Error, Accept, Shift, Reduce}
+use Rattle.words.specs.declared.Action.{Action}
+use Rattle.words.specs.declared.Action.the-variants.{Error, Accept, Shift, Reduce}
 use Rattle.numbers.specs.Codes.{treeFull, stackFull, stuck}
 use Rattle.pack.specs.Image.{states, act, actionOf, goto, lhs, len}
 use Rattle.look.specs.declared.Spot.{Spot}

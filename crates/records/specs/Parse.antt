@@ -6,8 +6,8 @@ use lib.Dec.{eqb, leb, ltb}
 use lib.ListN.{length, getD, drop}
 use Rattle.numbers.specs.Codes.{done, wrongShape, queryTooLong, unexpected, stuck, treeFull, stackFull, longestText, mostRecords, mostStates}
 use Rattle.numbers.specs.Front.{front}
-use Rattle.pack.specs.declared.Action.{Action}
-use Rattle.pack.specs.declared.Action.the-variants.{Error, Accept, Shift, Reduce}
+use Rattle.words.specs.declared.Action.{Action}
+use Rattle.words.specs.declared.Action.the-variants.{Error, Accept, Shift, Reduce}
 use Rattle.pack.specs.Image.{act, actionOf, goto, lhs, len, ofNonterminal}
 use Rattle.numbers.specs.declared.Verdict.the-variants.{Good, Wrong}
 use Rattle.shape.specs.Shape.{shape}

@@ -6,8 +6,8 @@ use Prim.Native.Nat.{ℕ, zero, suc, _+_, _-_, _^_}
 use lib.Dec.{eqb, leb, ltb}
 use lib.ListN.{length}
 use Rattle.sets.specs.Sets.{lacks, member, meet, isEmpty, several}
-use Rattle.pack.specs.declared.Action.{Action}
-use Rattle.pack.specs.declared.Action.the-variants.{Error, Accept, Shift, Reduce}
+use Rattle.words.specs.declared.Action.{Action}
+use Rattle.words.specs.declared.Action.the-variants.{Error, Accept, Shift, Reduce}
 use Rattle.pack.specs.Image.{word, mostSymbols, terminals, nonterminals, productions, states, classes, leastSize, greatestSize, firstNonterminal, ofNonterminal, greatestByte, layout, dom, lhs, len, symbol, lo, hi, rangeClass, acc, rej, poss, groupSet, chosen}
 
 -- The size at word i is there, and within its limits.

@@ -1,5 +1,5 @@
 use borrow.Author.Needs.{needs}
-use Rattle.pack.specs.Image.{acc}
+use Rattle.words.specs.Image.{acc}
 use Rattle.pack.proofs.image.acc.Statement.{statement}
 use Rattle.pack.proofs.image.acc.Tie as tie
 

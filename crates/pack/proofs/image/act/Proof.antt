@@ -1,5 +1,5 @@
 use borrow.Author.Needs.{needs}
-use Rattle.pack.specs.Image.{act}
+use Rattle.words.specs.Image.{act}
 use Rattle.pack.proofs.image.act.Statement.{statement}
 use Rattle.pack.proofs.image.act.Tie as tie
 

@@ -1,5 +1,5 @@
 use borrow.Author.Needs.{needs}
-use Rattle.pack.specs.Image.{chosen}
+use Rattle.words.specs.Image.{chosen}
 use Rattle.pack.proofs.image.chosen.Statement.{statement}
 use Rattle.pack.proofs.image.chosen.Tie as tie
 

@@ -1,5 +1,5 @@
 use borrow.Author.Needs.{needs}
-use Rattle.pack.specs.Image.{dom}
+use Rattle.words.specs.Image.{dom}
 use Rattle.pack.proofs.image.dom.Statement.{statement}
 use Rattle.pack.proofs.image.dom.Tie as tie
 

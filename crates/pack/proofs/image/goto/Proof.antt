@@ -1,5 +1,5 @@
 use borrow.Author.Needs.{needs}
-use Rattle.pack.specs.Image.{goto}
+use Rattle.words.specs.Image.{goto}
 use Rattle.pack.proofs.image.goto.Statement.{statement}
 use Rattle.pack.proofs.image.goto.Tie as tie
 

@@ -1,5 +1,5 @@
 use borrow.Author.Needs.{needs}
-use Rattle.pack.specs.Image.{groupSet}
+use Rattle.words.specs.Image.{groupSet}
 use Rattle.pack.proofs.image.group_set.Statement.{statement}
 use Rattle.pack.proofs.image.group_set.Tie as tie
 

@@ -1,5 +1,5 @@
 use borrow.Author.Needs.{needs}
-use Rattle.pack.specs.Image.{hi}
+use Rattle.words.specs.Image.{hi}
 use Rattle.pack.proofs.image.hi.Statement.{statement}
 use Rattle.pack.proofs.image.hi.Tie as tie
 

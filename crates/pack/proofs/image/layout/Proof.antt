@@ -1,5 +1,5 @@
 use borrow.Author.Needs.{needs}
-use Rattle.pack.specs.Image.{layout}
+use Rattle.words.specs.Image.{layout}
 use Rattle.pack.proofs.image.layout.Statement.{statement}
 use Rattle.pack.proofs.image.layout.Tie as tie
 

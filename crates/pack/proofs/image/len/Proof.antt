@@ -1,5 +1,5 @@
 use borrow.Author.Needs.{needs}
-use Rattle.pack.specs.Image.{len}
+use Rattle.words.specs.Image.{len}
 use Rattle.pack.proofs.image.len.Statement.{statement}
 use Rattle.pack.proofs.image.len.Tie as tie
 

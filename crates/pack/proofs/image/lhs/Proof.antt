@@ -1,5 +1,5 @@
 use borrow.Author.Needs.{needs}
-use Rattle.pack.specs.Image.{lhs}
+use Rattle.words.specs.Image.{lhs}
 use Rattle.pack.proofs.image.lhs.Statement.{statement}
 use Rattle.pack.proofs.image.lhs.Tie as tie
 

@@ -1,5 +1,5 @@
 use borrow.Author.Needs.{needs}
-use Rattle.pack.specs.Image.{lo}
+use Rattle.words.specs.Image.{lo}
 use Rattle.pack.proofs.image.lo.Statement.{statement}
 use Rattle.pack.proofs.image.lo.Tie as tie
 

@@ -1,5 +1,5 @@
 use borrow.Author.Needs.{needs}
-use Rattle.pack.specs.Image.{move}
+use Rattle.words.specs.Image.{move}
 use Rattle.pack.proofs.image.move_of.Statement.{statement}
 use Rattle.pack.proofs.image.move_of.Tie as tie
 

@@ -1,5 +1,5 @@
 use borrow.Author.Needs.{needs}
-use Rattle.pack.specs.Image.{poss}
+use Rattle.words.specs.Image.{poss}
 use Rattle.pack.proofs.image.poss.Statement.{statement}
 use Rattle.pack.proofs.image.poss.Tie as tie
 

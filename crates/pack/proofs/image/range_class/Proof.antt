@@ -1,5 +1,5 @@
 use borrow.Author.Needs.{needs}
-use Rattle.pack.specs.Image.{rangeClass}
+use Rattle.words.specs.Image.{rangeClass}
 use Rattle.pack.proofs.image.range_class.Statement.{statement}
 use Rattle.pack.proofs.image.range_class.Tie as tie
 

@@ -1,5 +1,5 @@
 use borrow.Author.Needs.{needs}
-use Rattle.pack.specs.Image.{rej}
+use Rattle.words.specs.Image.{rej}
 use Rattle.pack.proofs.image.rej.Statement.{statement}
 use Rattle.pack.proofs.image.rej.Tie as tie
 

@@ -1,5 +1,5 @@
 use borrow.Author.Needs.{needs}
-use Rattle.pack.specs.Image.{symbol}
+use Rattle.words.specs.Image.{symbol}
 use Rattle.pack.proofs.image.symbol.Statement.{statement}
 use Rattle.pack.proofs.image.symbol.Tie as tie
 

@@ -2,7 +2,7 @@ use borrow.Author.Needs.{needs}
 use mathlib.Core.Path.{_≡_}
 use Prim.Native.Nat.{_≤_, _-_}
 use native.Mathlib.Omega.{arith}
-use Rattle.pack.specs.Image.{terminals, validFrom}
+use Rattle.words.specs.Image.{terminals, validFrom}
 use Rattle.pack.proofs.Valid.{valid-none, valid-fits, valid-with, valid-all}
 use Rattle.pack.proofs.image.valid_set.Statement.{statement}
 use Rattle.pack.proofs.image.valid_set.Tie as tie

@@ -4,7 +4,7 @@ use mathlib.Core.Path.{_≡_}
 use mathlib.Core.List.{List}
 use Prim.Native.Nat.{ℕ, _*_, _≤_}
 use lib.ListN.{length}
-use Rattle.pack.specs.Image.{headWords, terminals, nonterminals, productions, states, scanStates, classes, ranges, groups, mostTerminals, mostNonterminals, mostProductions, mostParseStates, mostScanStates, mostClasses, mostRanges, mostGroups, needed}
+use Rattle.words.specs.Image.{headWords, terminals, nonterminals, productions, states, scanStates, classes, ranges, groups, mostTerminals, mostNonterminals, mostProductions, mostParseStates, mostScanStates, mostClasses, mostRanges, mostGroups, needed}
 
 -- The sizes are there and within their limits, and so are the products of two of them.
 pub record Sized (img : List ℕ) : Type 0 where

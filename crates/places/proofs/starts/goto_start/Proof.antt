@@ -1,8 +1,8 @@
 use native.Mathlib.Omega.{arith}
 use borrow.Author.Needs.{needs}
-use Rattle.pack.proofs.Laws.{times}
-use Rattle.pack.proofs.image.goto_start.Statement.{statement}
-use Rattle.pack.proofs.image.goto_start.Tie as tie
+use Rattle.places.proofs.Laws.{times}
+use Rattle.places.proofs.starts.goto_start.Statement.{statement}
+use Rattle.places.proofs.starts.goto_start.Tie as tie
 
 pub goto-start-spec : {M : Type 1} → statement M
 goto-start-spec =

@@ -6,8 +6,8 @@ use Prim.Native.Nat.{ℕ, zero, suc, _+_, _*_, _-_, _/_, _%_, _^_}
 use lib.Dec.{eqb, leb}
 use lib.ListN.{getD}
 use Rattle.sets.specs.Sets.{less, single}
-use Rattle.pack.specs.declared.Action.{Action}
-use Rattle.pack.specs.declared.Action.the-variants.{Error, Accept, Shift, Reduce}
+use Rattle.words.specs.declared.Action.{Action}
+use Rattle.words.specs.declared.Action.the-variants.{Error, Accept, Shift, Reduce}
 
 -- The word at a place; 0 where there is none.
 abbrev pub word : List ℕ → ℕ → ℕ

@@ -1,8 +1,8 @@
 use borrow.Author.Needs.{needs}
 use borrow.Author.Tests.{eq-eqb, ne-eqb}
-use Rattle.pack.specs.Image.{actionOf}
-use Rattle.pack.proofs.action_of.Statement.{statement}
-use Rattle.pack.proofs.action_of.Tie as tie
+use Rattle.words.specs.Image.{actionOf}
+use Rattle.words.proofs.action_of.Statement.{statement}
+use Rattle.words.proofs.action_of.Tie as tie
 
 returns : tie.Need-returns
 unfolding actionOf

@@ -1,8 +1,8 @@
 use borrow.Author.Needs.{needs}
 use mathlib.Core.Path.{refl}
-use Rattle.pack.specs.Image.{leastSize}
-use Rattle.pack.proofs.image.least_size.Statement.{statement}
-use Rattle.pack.proofs.image.least_size.Tie as tie
+use Rattle.words.specs.Image.{leastSize}
+use Rattle.words.proofs.least_size.Statement.{statement}
+use Rattle.words.proofs.least_size.Tie as tie
 
 returns : tie.Need-returns
 unfolding leastSize

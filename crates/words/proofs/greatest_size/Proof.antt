@@ -1,8 +1,8 @@
 use borrow.Author.Needs.{needs}
 use mathlib.Core.Path.{refl}
-use Rattle.pack.specs.Image.{greatestSize}
-use Rattle.pack.proofs.image.greatest_size.Statement.{statement}
-use Rattle.pack.proofs.image.greatest_size.Tie as tie
+use Rattle.words.specs.Image.{greatestSize}
+use Rattle.words.proofs.greatest_size.Statement.{statement}
+use Rattle.words.proofs.greatest_size.Tie as tie
 
 returns : tie.Need-returns
 unfolding greatestSize

@@ -1,8 +1,8 @@
 use native.Mathlib.Omega.{arith}
 use borrow.Author.Needs.{needs}
-use Rattle.pack.proofs.Laws.{times}
-use Rattle.pack.proofs.image.scan_start.Statement.{statement}
-use Rattle.pack.proofs.image.scan_start.Tie as tie
+use Rattle.places.proofs.Laws.{times}
+use Rattle.places.proofs.starts.scan_start.Statement.{statement}
+use Rattle.places.proofs.starts.scan_start.Tie as tie
 
 pub scan-start-spec : {M : Type 1} → statement M
 scan-start-spec =

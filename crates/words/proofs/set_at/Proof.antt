@@ -1,7 +1,7 @@
 use borrow.Author.Needs.{needs}
-use Rattle.pack.specs.Image.{setAt}
-use Rattle.pack.proofs.image.set_at.Statement.{statement}
-use Rattle.pack.proofs.image.set_at.Tie as tie
+use Rattle.words.specs.Image.{setAt}
+use Rattle.words.proofs.set_at.Statement.{statement}
+use Rattle.words.proofs.set_at.Tie as tie
 
 returns : tie.Need-returns
 unfolding setAt

@@ -1,8 +1,8 @@
 use borrow.Author.Needs.{needs}
 use native.Mathlib.Omega.{arith}
 use lib.Arith.{digits-lt}
-use Rattle.pack.proofs.image.act_at.Statement.{statement}
-use Rattle.pack.proofs.image.act_at.Tie as tie
+use Rattle.places.proofs.act_at.Statement.{statement}
+use Rattle.places.proofs.act_at.Tie as tie
 
 cell-at-requires : tie.Need-cell-at-requires
 cell-at-requires c κs =

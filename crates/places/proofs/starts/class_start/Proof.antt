@@ -1,8 +1,8 @@
 use native.Mathlib.Omega.{arith}
 use borrow.Author.Needs.{needs}
-use Rattle.pack.proofs.Laws.{times}
-use Rattle.pack.proofs.image.class_start.Statement.{statement}
-use Rattle.pack.proofs.image.class_start.Tie as tie
+use Rattle.places.proofs.Laws.{times}
+use Rattle.places.proofs.starts.class_start.Statement.{statement}
+use Rattle.places.proofs.starts.class_start.Tie as tie
 
 pub class-start-spec : {M : Type 1} → statement M
 class-start-spec =
