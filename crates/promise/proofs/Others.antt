@@ -13,7 +13,7 @@ use Rattle.sets.proofs.Laws.{has-lt, has-none, has-and, has-or}
 use Rattle.pack.specs.Image.{terminals, states, scanStates, layout, dom, act, actionOf, acc, rej, validSet}
 use Rattle.numbers.specs.declared.Verdict.the-variants.{Good}
 use Rattle.rules.specs.Rules.{actRight}
-use Rattle.rules.proofs.Laws.{layout-column}
+use Rattle.parserules.proofs.Laws.{layout-column}
 use Rattle.shape.specs.Shape.{parserRules, actRule, shape}
 use Rattle.shape.proofs.Laws.{rule-good, and-then-good, each-at}
 use Rattle.shape.proofs.Good.{good-parts, good-rej, good-layout}

@@ -1,23 +1,12 @@
--- Laws of the rules: the loop that compares a set with those of earlier groups, and a code in a layout column. Assumes nothing.
-use mathlib.Core.Path.{_≡_, refl}
-use mathlib.Core.Bool.{Bool, true, false, _&&_}
+-- Laws of the rules: the loop that compares a set with those of earlier groups. Assumes nothing.
+use mathlib.Core.Path.{_≡_}
+use mathlib.Core.Bool.{true, false}
 use mathlib.Core.List.{List}
-use Prim.Native.Nat.{ℕ, suc, _+_, _-_, _%_, _<_, _≤_}
+use Prim.Native.Nat.{ℕ, suc, _+_, _-_, _<_, _≤_}
 use native.Mathlib.Omega.{arith}
-use lib.Dec.{eqb}
 use borrow.Author.Tests.{eq-eqb, ne-eqb}
-use Rattle.sets.specs.Sets.{lacks}
-use Rattle.pack.specs.Image.{layout, actionOf, groupSet}
-use Rattle.rules.specs.Rules.{actRight, differs}
-
--- No action but error stands in a layout column.
-pub layout-column : (img : List ℕ) (t code : ℕ) {l : ℕ} → l ≡ layout img → (code ≡ 0 → ⊥) → (code ≡ 1 → ⊥) → lacks l t ≡ false → actRight img t (actionOf code) ≡ false
-unfolding actRight actionOf
-layout-column img t code a n m e = go (eqb ((code - 2) % 2) 0) refl
-  where
-    go : (b : Bool) → eqb ((code - 2) % 2) 0 ≡ b → actRight img t (actionOf code) ≡ false
-    go true f = simp (actionOf, ne-eqb _ _ n, ne-eqb _ _ m, f, actRight, ← a, e, _&&_)
-    go false f = simp (actionOf, ne-eqb _ _ n, ne-eqb _ _ m, f, actRight, ← a, e, _&&_)
+use Rattle.pack.specs.Image.{groupSet}
+use Rattle.parserules.specs.Rules.{differs}
 
 -- The loop that compares a set with the groups before it.
 module _ (img : List ℕ) (set n g : ℕ) where

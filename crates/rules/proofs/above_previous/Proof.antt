@@ -1,6 +1,6 @@
 use borrow.Author.Needs.{needs}
 use borrow.Author.Tests.{eq-eqb, ne-eqb}
-use Rattle.rules.specs.Rules.{abovePrevious}
+use Rattle.parserules.specs.Rules.{abovePrevious}
 use Rattle.rules.proofs.above_previous.Statement.{statement}
 use Rattle.rules.proofs.above_previous.Tie as tie
 

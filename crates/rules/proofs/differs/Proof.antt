@@ -2,7 +2,7 @@ use borrow.Author.Needs.{needs}
 use mathlib.Core.Path.{_≡_, sym, _∙_}
 use Prim.Native.Nat.{_≤_, _-_}
 use native.Mathlib.Nat.{sub-zero}
-use Rattle.rules.specs.Rules.{differs}
+use Rattle.parserules.specs.Rules.{differs}
 use Rattle.rules.proofs.Laws.{differs-end, differs-not, differs-on}
 use Rattle.rules.proofs.differs.Statement.{statement}
 use Rattle.rules.proofs.differs.Tie as tie

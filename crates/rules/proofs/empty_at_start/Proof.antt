@@ -1,6 +1,6 @@
 use borrow.Author.Tests.{eq-eqb, ne-eqb}
 use Rattle.sets.specs.Sets.{isEmpty}
-use Rattle.rules.specs.Rules.{emptyAtStart}
+use Rattle.parserules.specs.Rules.{emptyAtStart}
 use Rattle.rules.proofs.empty_at_start.Statement.{statement}
 use Rattle.rules.proofs.empty_at_start.Tie as tie
 

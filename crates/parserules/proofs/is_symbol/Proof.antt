@@ -3,9 +3,9 @@ use mathlib.Core.Path.{sym, _∙_}
 use mathlib.Core.Bool.{_&&_}
 use borrow.Author.Tests.{lt-ltb, le-ltb, le-leb, lt-leb}
 use Rattle.sets.proofs.Laws.{in-lacks, out-lacks}
-use Rattle.rules.specs.Rules.{isSymbol}
-use Rattle.rules.proofs.is_symbol.Statement.{statement}
-use Rattle.rules.proofs.is_symbol.Tie as tie
+use Rattle.parserules.specs.Rules.{isSymbol}
+use Rattle.parserules.proofs.is_symbol.Statement.{statement}
+use Rattle.parserules.proofs.is_symbol.Tie as tie
 
 returns : tie.Need-returns
 unfolding isSymbol

@@ -1,8 +1,8 @@
 use borrow.Author.Needs.{needs}
 use borrow.Author.Tests.{lt-ltb, le-ltb}
-use Rattle.rules.specs.Rules.{symbolRight}
-use Rattle.rules.proofs.symbol_right.Statement.{statement}
-use Rattle.rules.proofs.symbol_right.Tie as tie
+use Rattle.parserules.specs.Rules.{symbolRight}
+use Rattle.parserules.proofs.symbol_right.Statement.{statement}
+use Rattle.parserules.proofs.symbol_right.Tie as tie
 
 returns : tie.Need-returns
 returns c =

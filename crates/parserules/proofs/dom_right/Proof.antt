@@ -4,9 +4,9 @@ use mathlib.Core.Bool.{_&&_}
 use borrow.Author.Tests.{eq-eqb, ne-eqb}
 use Rattle.sets.specs.Sets.{isEmpty}
 use Rattle.sets.proofs.Laws.{in-lacks, out-lacks}
-use Rattle.rules.specs.Rules.{domRight}
-use Rattle.rules.proofs.dom_right.Statement.{statement}
-use Rattle.rules.proofs.dom_right.Tie as tie
+use Rattle.parserules.specs.Rules.{domRight}
+use Rattle.parserules.proofs.dom_right.Statement.{statement}
+use Rattle.parserules.proofs.dom_right.Tie as tie
 
 returns : tie.Need-returns
 unfolding domRight isEmpty

@@ -1,6 +1,6 @@
 use borrow.Author.Needs.{needs}
-use Rattle.rules.proofs.layout_right.Statement.{statement}
-use Rattle.rules.proofs.layout_right.Tie as tie
+use Rattle.parserules.proofs.layout_right.Statement.{statement}
+use Rattle.parserules.proofs.layout_right.Tie as tie
 
 returns : tie.Need-returns
 returns c = rw (c .before .layout .ensures) at (c .fits2 .ensures)

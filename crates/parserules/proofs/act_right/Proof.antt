@@ -4,10 +4,10 @@ use mathlib.Core.Bool.{_&&_}
 use borrow.Author.Tests.{eq-eqb, ne-eqb, le-leb, lt-leb}
 use Rattle.sets.proofs.Laws.{in-lacks, out-lacks}
 use Rattle.pack.specs.Image.{actionOf}
-use Rattle.rules.specs.Rules.{actRight}
-use Rattle.rules.proofs.Laws.{layout-column}
-use Rattle.rules.proofs.act_right.Statement.{statement}
-use Rattle.rules.proofs.act_right.Tie as tie
+use Rattle.parserules.specs.Rules.{actRight}
+use Rattle.parserules.proofs.Laws.{layout-column}
+use Rattle.parserules.proofs.act_right.Statement.{statement}
+use Rattle.parserules.proofs.act_right.Tie as tie
 
 returns : tie.Need-returns
 unfolding actRight actionOf

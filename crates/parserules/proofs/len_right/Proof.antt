@@ -1,7 +1,7 @@
 use borrow.Author.Needs.{needs}
 use mathlib.Core.Path.{refl}
-use Rattle.rules.proofs.len_right.Statement.{statement}
-use Rattle.rules.proofs.len_right.Tie as tie
+use Rattle.parserules.proofs.len_right.Statement.{statement}
+use Rattle.parserules.proofs.len_right.Tie as tie
 
 returns : tie.Need-returns
 returns c = rw (c .len .ensures) refl

@@ -1,8 +1,8 @@
 use borrow.Author.Needs.{needs}
 use mathlib.Core.Bool.{_&&_}
 use borrow.Author.Tests.{le-ltb, lt-ltb, le-leb, lt-leb}
-use Rattle.rules.proofs.size_right.Statement.{statement}
-use Rattle.rules.proofs.size_right.Tie as tie
+use Rattle.parserules.proofs.size_right.Statement.{statement}
+use Rattle.parserules.proofs.size_right.Tie as tie
 
 returns : tie.Need-returns
 returns c = simp (_&&_, le-ltb _ _ (c .if1 .taken))

@@ -8,9 +8,9 @@ use borrow.Author.Tests.{lt-ltb, le-ltb}
 use Rattle.sets.specs.Sets.{lacks}
 use Rattle.sets.proofs.Laws.{has-zero, shifted-away, not-shifted-away}
 use Rattle.pack.specs.Image.{terminals}
-use Rattle.rules.specs.Rules.{fits}
-use Rattle.rules.proofs.fits.Statement.{statement}
-use Rattle.rules.proofs.fits.Tie as tie
+use Rattle.parserules.specs.Rules.{fits}
+use Rattle.parserules.proofs.fits.Statement.{statement}
+use Rattle.parserules.proofs.fits.Tie as tie
 
 returns : tie.Need-returns
 unfolding fits
