@@ -1,4 +1,3 @@
-pub mod Escaped
 pub mod Heights
 pub mod Measures
 pub mod Sizes

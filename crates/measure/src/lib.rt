@@ -5,7 +5,7 @@ ghost use mathlib.Core.List.{List};
 ghost use Prim.Native.Nat.{ℕ, _+_, _*_, _<_, _≤_};
 ghost use lib.ListN.{length, getD};
 ghost use Rattle.text.specs.Decimal.{decimal};
-ghost use Rattle.print.specs.Print.{special, escapedByte, escaped, show, showEach, depth, depths, standing, nothing};
+ghost use Rattle.print.specs.Print.{show, showEach, depth, depths, standing, nothing};
 ghost use Rattle.measure.specs.Steps.{Sound, treeAt, treesBefore, lastOf, bytesOf, leafOf, heightAfter, heightOf, upBy, Measures};
 
 pub const RECORD_WORDS: usize = 4;
@@ -93,48 +93,12 @@ fn with_number(size: usize, n: usize) -> usize
     with_number(plus(size, 1), n / 10)
 }
 
-// Whether a byte is preceded by a backslash.
-pub fn special(b: u8) -> bool
-    ensures { λ r. ⌜ r ≡ special b ⌝ }
-{
-    if b == b'[' {
-        return true;
-    }
-    if b == b']' {
-        return true;
-    }
-    b == b'\\'
-}
-
-// The bytes that are printed for a byte.
-fn width(b: u8) -> usize
-    ensures { λ r. ⌜ r ≡ length (escapedByte b) ⌝ }
-{
-    if special(b) {
-        return 2;
-    }
-    1
-}
-
-// The bytes that are printed for a leaf's bytes.
-fn bytes_size(bytes: &[u8]) -> usize
-    ensures { λ r. ⌜ r ≡ length (escaped (now (bytes .entry))) ⌝ }
-{
-    let mut size: usize = 0;
-    let mut i: usize = 0;
-    while i < bytes.len() {
-        size += width(bytes[i]);
-        i += 1;
-    }
-    size
-}
-
 // The size so far with the leaf that is record n.
 fn with_leaf(text: &[u8], tree: &[u16], n: usize, size: usize) -> usize
     requires { ⌜ n * 4 + 4 ≤ length (now tree) ⌝ }
     ensures { λ r. ⌜ r ≡ upBy size (length (show (leafOf (now (text .entry)) (now (tree .entry)) n))) ⌝ }
 {
-    let bytes = bytes_size(leaf_bytes(text, tree, n));
+    let bytes = escape::bytes_size(leaf_bytes(text, tree, n));
     let number = word(tree, n * RECORD_WORDS);
     plus(with_number(plus(size, bytes), number), 3)
 }

@@ -1,3 +1,1 @@
-pub mod Bytes
-pub mod Walks
 pub mod Whole

@@ -15,9 +15,9 @@ use Rattle.parse.specs.Parse.{recordWords}
 use Rattle.print.specs.Print.{Tree, leaf, depth, show, Standing, nothing, standing, notOneTree, tooDeep, mostNodes, greatestNumber, told, printTree, printOne, print}
 use Rattle.print.proofs.Records.{left-over}
 use Rattle.measure.specs.declared.Measured.{Measured}
-use Rattle.printer.specs.declared.walk.Cursor.{Cursor}
+use Rattle.printwalk.specs.declared.Cursor.{Cursor}
 use Rattle.measure.specs.Steps.{Sound, treeAt, treesBefore, heightOf, Measures}
-use Rattle.printer.specs.Steps.{Room, Prints}
+use Rattle.printwalk.specs.Steps.{Room, Prints}
 use Rattle.measure.proofs.Heights.{height-some, height-sound}
 use Rattle.measure.proofs.Trees.{at-end}
 

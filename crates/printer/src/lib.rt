@@ -5,9 +5,6 @@ ghost use lib.ListN.{length};
 ghost use Rattle.numbers.specs.Front.{bufferAfter};
 ghost use Rattle.print.specs.Print.{print};
 
-mod put; // put.rt: bytes and numbers, each in front of what was written before
-mod walk; // walk.rt: nodes and children
-
 pub const NOT_ONE_TREE: u8 = 14;
 
 pub const TOO_DEEP: u8 = 15;
@@ -41,7 +38,7 @@ pub fn print(text: &[u8], tree: &[u16], buffer: &mut [u8]) -> Answer
             number: size,
         };
     }
-    walk::print_node(text, tree, last, buffer, size);
+    printwalk::print_node(text, tree, last, buffer, size);
     Answer {
         code: numbers::DONE,
         number: size,
