@@ -1,4 +1,4 @@
--- Laws of the rows of sets: one number more, two halves of a set, its least number, sets that are joined. Assumes nothing.
+-- Laws of the rows of sets: one number more, two halves of a set, its least number. Assumes nothing.
 use mathlib.Core.Path.{_≡_, refl, sym, ap, ap₂, _∙_}
 use mathlib.Core.Bool.{Bool, true, false, _&&_}
 use mathlib.Core.List.{List}
@@ -17,7 +17,7 @@ use Rattle.sets.specs.Sets.{has, member, subset, lowest}
 use Rattle.sets.proofs.Laws.{has-lt, has-none, has-above, has-zero, has-suc, has-or, lowest-lt, lowest-in, lowest-below}
 use Rattle.conditions.specs.Tests.{allBelow, someBelow, implies}
 use Rattle.conditions.proofs.TestLaws.{alike, false-true, not-true, implies-gives, implies-all, all-each, all-true, some-one, some-true, member-has, has-member, subset-is}
-use Rattle.edges.specs.Rows.{bitAt, either, Put, PutOne, PutEach, Half, Whole, allIn, Next, joined, Made}
+use Rattle.edges.specs.Rows.{bitAt, either, Put, PutOne, PutEach, Half, Whole, allIn, Next, Made}
 
 -- The set of one number.
 has-single : (b : ℕ) → has (2 ^ b) b ≡ 1
@@ -412,28 +412,6 @@ module _ {test : ℕ → Bool} {low high : ℕ} (w : Whole test low high) where
       whole-same (λ y l. ap (λ (x : Bool). either (test y) x) (alike (eqb y (suc p - 1)) (eqb (suc p) (1 + y))
       (λ e. eq-eqb (suc p) (1 + y) (omega (arith, eqb-true y (suc p - 1) e))) (λ e. eq-eqb y (suc p - 1) (omega (arith, eqb-true (suc p) (1 + y) e)))))
       (whole-or w (record { low-half = k; high-half = m }))
-
--- Sets joined, one after the other: those whose numbers are below v.
-module _ (row of : List ℕ) (i : ℕ) where
-  unfoldable pub joinedBelow : ℕ → ℕ → Bool
-  joinedBelow v y = someBelow v (λ w. bitAt of i w && bitAt row w y)
-
-  pub join-none : Whole (joinedBelow 0) 0 0
-  unfolding joinedBelow someBelow
-  join-none = whole-none (λ y. refl)
-
-  pub join-more : (v : ℕ) {low high : ℕ} → Whole (joinedBelow v) low high → bitAt of i v ≡ true
-      → Whole (joinedBelow (v + 1)) (bitOr low (getD row (2 * v) 0)) (bitOr high (getD row (2 * v + 1) 0))
-  unfolding joinedBelow
-  join-more v w e = whole-same (λ y l. sym (some-more v (λ u. bitAt of i u && bitAt row u y) ∙ rw e)) (whole-or w (whole-of row v))
-
-  pub join-past : {v u low high : ℕ} → Whole (joinedBelow v) low high → Next (bitAt of i) 128 v u → Whole (joinedBelow u) low high
-  unfolding joinedBelow
-  join-past {v} {u} w n = whole-same (λ y l. some-past v u (λ t. bitAt of i t && bitAt row t y) (n .from) (λ t a b. rw (n .none t a b))) w
-
-  pub join-all : {low high : ℕ} → Whole (joinedBelow 128) low high → Whole (joined row of i) low high
-  unfolding joinedBelow joined
-  join-all w = w
 
 -- A set made anew.
 pub made-is : (row : List ℕ) (i : ℕ) {test : ℕ → Bool} {low high : ℕ} → length row ≡ 256 → i < 128 → Half test 0 low → Half test 1 high

@@ -5,7 +5,7 @@ ghost use lib.Dec.{eqb};
 ghost use lib.ListN.{length, set};
 ghost use Rattle.sets.specs.Sets.{member};
 ghost use Rattle.conditions.specs.Tests.{allBelow, implies};
-ghost use Rattle.edges.specs.Rows.{bitAt, Put, Half, Whole, allIn, onlyIn, Next, NextOf, With, joined, Made};
+ghost use Rattle.edges.specs.Rows.{bitAt, Put, Half, allIn, onlyIn, Next, NextOf, With, Made};
 
 // What `next` gives where there is no such number.
 pub const NONE: usize = 128;
@@ -134,24 +134,8 @@ pub fn with(low: u64, high: u64, to: usize) -> Wide
     }
 }
 
-// The sets of the first row, joined, whose own numbers are in set i of the second.
-fn join(row: &[u64; 256], of: &[u64; 256], i: usize) -> Wide
-    requires { ⌜ i < 128 ⌝ }
-    ensures { λ r. ⌜ Whole (joined (now (row .entry)) (now (of .entry)) i) (r .low) (r .high) ⌝ }
-{
-    let mut low: u64 = 0;
-    let mut high: u64 = 0;
-    let mut v = next(of, i, 0);
-    while v < NONE {
-        low = low | row[2 * v];
-        high = high | row[2 * v + 1];
-        v = next(of, i, v + 1);
-    }
-    Wide { low, high }
-}
-
 // Makes set v anew, of two words.
-fn write(row: &mut [u64; 256], v: usize, low: u64, high: u64)
+pub fn write(row: &mut [u64; 256], v: usize, low: u64, high: u64)
     requires { ⌜ length (now row) ≡ 256 ⌝ }
     requires { ⌜ v < 128 ⌝ }
     ensures { λ r. ⌜ now (row .exit) ≡ set (set (now (row .entry)) (2 * v) low) (2 * v + 1) high ⌝ }
@@ -167,24 +151,4 @@ pub fn alone(row: &mut [u64; 256], i: usize, x: usize)
     ensures { λ r. ⌜ Made (now (row .entry)) i (λ y. eqb y x) (now (row .exit)) ⌝ }
 {
     write(row, i, half(x, 0), half(x, 1));
-}
-
-// Set i of the last row: the sets of the first row, joined, whose numbers are in set i of the second.
-pub fn collect(row: &[u64; 256], of: &[u64; 256], to: &mut [u64; 256], i: usize)
-    requires { ⌜ length (now to) ≡ 256 ⌝ }
-    requires { ⌜ i < 128 ⌝ }
-    ensures { λ r. ⌜ Made (now (to .entry)) i (joined (now (row .entry)) (now (of .entry)) i) (now (to .exit)) ⌝ }
-{
-    let w = join(row, of, i);
-    write(to, i, w.low, w.high);
-}
-
-// The same as set i + 1 of the second row itself.
-pub fn step(row: &[u64; 256], of: &mut [u64; 256], i: usize)
-    requires { ⌜ length (now of) ≡ 256 ⌝ }
-    requires { ⌜ i < 127 ⌝ }
-    ensures { λ r. ⌜ Made (now (of .entry)) (i + 1) (joined (now (row .entry)) (now (of .entry)) i) (now (of .exit)) ⌝ }
-{
-    let w = join(row, of, i);
-    write(of, i + 1, w.low, w.high);
 }

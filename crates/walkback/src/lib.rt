@@ -32,8 +32,8 @@ pub fn extend(
 {
     let mut d = depth;
     while d < want {
-        rows::collect(on, back, into, d);
-        rows::step(from, back, d);
+        joins::collect(on, back, into, d);
+        joins::step(from, back, d);
         d += 1;
     }
     d

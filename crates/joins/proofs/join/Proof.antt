@@ -3,10 +3,10 @@ use mathlib.Core.Path.{_≡_}
 use mathlib.Core.Bool.{true}
 use Prim.Native.Nat.{_-_, _<_, _≤_}
 use native.Mathlib.Omega.{arith}
 use Rattle.edges.specs.Rows.{bitAt, Whole}
-use Rattle.edges.proofs.RowLaws as laws
-use Rattle.edges.proofs.rows.join.Statement.{statement}
-use Rattle.edges.proofs.rows.join.Tie as tie
+use Rattle.joins.proofs.Laws as laws
+use Rattle.joins.proofs.join.Statement.{statement}
+use Rattle.joins.proofs.join.Tie as tie
 
 abbrev Inv-loop : tie.InvT-loop
 Inv-loop row of i low₀ high₀ v₀ low high v = (v ≤ 128) × (v < 128 → bitAt of i v ≡ true) × (Whole (laws.joinedBelow row of i v) low high)

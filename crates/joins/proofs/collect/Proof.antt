@@ -1,7 +1,7 @@
 use borrow.Author.Needs.{needs}
 use Rattle.edges.proofs.RowLaws as laws
-use Rattle.edges.proofs.rows.collect.Statement.{statement}
-use Rattle.edges.proofs.rows.collect.Tie as tie
+use Rattle.joins.proofs.collect.Statement.{statement}
+use Rattle.joins.proofs.collect.Tie as tie
 
 returns : tie.Need-returns
 returns c =

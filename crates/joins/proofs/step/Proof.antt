@@ -1,8 +1,8 @@
 use borrow.Author.Needs.{needs}
 use native.Mathlib.Omega.{arith}
 use Rattle.edges.proofs.RowLaws as laws
-use Rattle.edges.proofs.rows.step.Statement.{statement}
-use Rattle.edges.proofs.rows.step.Tie as tie
+use Rattle.joins.proofs.step.Statement.{statement}
+use Rattle.joins.proofs.step.Tie as tie
 
 returns : tie.Need-returns
 returns c =
