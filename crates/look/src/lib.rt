@@ -7,7 +7,7 @@ ghost use Rattle.pack.specs.Image.{terminals, states};
 ghost use Rattle.pack.specs.Laid.{Laid};
 ghost use Rattle.shape.specs.Shape.{shape};
 ghost use Rattle.sets.specs.Sets.{lowest};
-ghost use Rattle.scan.specs.Ready.{Ready};
+ghost use Rattle.classes.specs.Ready.{Ready};
 ghost use Rattle.scan.specs.Token.{chosenOf, terminalOf};
 ghost use Rattle.look.specs.Inner.{Known, Within, Terms, SoughtWithin, LookedWithin};
 ghost use Rattle.look.specs.Look.{refused, seek, rescan, choose, soughtSet, piece, isLayout, look};

@@ -9,7 +9,7 @@ ghost use lib.ListN.{length, getD, drop};
 ghost use Rattle.numbers.specs.declared.Verdict.the-variants.{Good};
 ghost use Rattle.shape.specs.Shape.{shape};
 ghost use Rattle.records.specs.Inner.{Stacked, Roomy, KeptTurn, standing, bounded, told};
-ghost use Rattle.scan.specs.Ready.{Ready};
+ghost use Rattle.classes.specs.Ready.{Ready};
 ghost use Rattle.look.specs.Inner.{Known, Within};
 ghost use Rattle.look.specs.Look.{look};
 ghost use Rattle.records.specs.Parse.{step, run, start, roomOf, treeAfter};

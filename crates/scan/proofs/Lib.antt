@@ -1,5 +1,4 @@
 pub mod Laws
 pub mod Longest
 pub mod Matching
-pub mod Ranges
 pub mod Theory

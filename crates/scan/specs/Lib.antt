@@ -1,4 +1,3 @@
 pub mod Matching
-pub mod Ready
 pub mod Scan
 pub mod Token

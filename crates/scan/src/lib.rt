@@ -6,11 +6,9 @@ ghost use Rattle.numbers.specs.declared.Verdict.the-variants.{Good};
 ghost use Rattle.pack.specs.Image.{scanStates, move, classOf, allButEnd};
 ghost use Rattle.pack.specs.Laid.{Laid};
 ghost use Rattle.shape.specs.Shape.{shape};
-ghost use Rattle.scan.specs.Ready.{Ready};
+ghost use Rattle.classes.specs.Ready.{Ready};
 ghost use Rattle.scan.specs.Scan.{remember, scan, stopCode, refused, scanAlone};
 use pack::image;
-
-pub mod classes; // classes.rt: the class of a byte
 
 // What a scan remembers: the terminals matched last and the length of that match; both 0 for none.
 pub struct Remembered {

@@ -1,8 +1,8 @@
 use borrow.Author.Needs.{needs}
 use native.Mathlib.Omega.{arith}
-use Rattle.scan.proofs.Ranges.{one-alone, no-range}
-use Rattle.scan.proofs.classes.sought.Statement.{statement}
-use Rattle.scan.proofs.classes.sought.Tie as tie
+use Rattle.classes.proofs.Ranges.{one-alone, no-range}
+use Rattle.classes.proofs.sought.Statement.{statement}
+use Rattle.classes.proofs.sought.Tie as tie
 
 returns-7 : tie.Need-returns-7
 returns-7 c =

@@ -12,7 +12,7 @@ use Rattle.numbers.specs.declared.Verdict.the-variants.{Good}
 use Rattle.pack.specs.Image.{ranges, lo, hi, rangeClass, classIn, classOf}
 use Rattle.shape.specs.Shape.{shape}
 use Rattle.shape.proofs.Good.{good-range, good-above}
-use Rattle.scan.specs.Ready.{Onward}
+use Rattle.classes.specs.Ready.{Onward}
 
 module _ (img : List ℕ) (b : ℕ) where
   -- Ranges that end below the byte are passed over.

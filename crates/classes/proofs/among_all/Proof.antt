@@ -1,9 +1,9 @@
 use borrow.Author.Needs.{needs}
 use mathlib.Core.Path.{sym, _∙_}
 use native.Mathlib.Omega.{arith}
-use Rattle.scan.proofs.Ranges.{first-step}
-use Rattle.scan.proofs.classes.among_all.Statement.{statement}
-use Rattle.scan.proofs.classes.among_all.Tie as tie
+use Rattle.classes.proofs.Ranges.{first-step}
+use Rattle.classes.proofs.among_all.Statement.{statement}
+use Rattle.classes.proofs.among_all.Tie as tie
 
 among-requires : tie.Need-among-requires
 among-requires c κs =

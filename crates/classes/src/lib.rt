@@ -4,7 +4,7 @@ use pack::image;
 ghost use mathlib.Core.Path.{_≡_};
 ghost use Prim.Native.Nat.{_+_, _<_, _≤_};
 ghost use Rattle.pack.specs.Image.{classes, ranges, classIn, classOf};
-ghost use Rattle.scan.specs.Ready.{Ready, Onward};
+ghost use Rattle.classes.specs.Ready.{Ready, Onward};
 
 fn wide(x: u8) -> usize
     ensures { λ r. ⌜ r ≡ x ⌝ }

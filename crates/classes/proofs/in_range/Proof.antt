@@ -1,7 +1,7 @@
 use borrow.Author.Needs.{needs}
-use Rattle.scan.proofs.Ranges.{one-above, one-below, one-holds}
-use Rattle.scan.proofs.classes.in_range.Statement.{statement}
-use Rattle.scan.proofs.classes.in_range.Tie as tie
+use Rattle.classes.proofs.Ranges.{one-above, one-below, one-holds}
+use Rattle.classes.proofs.in_range.Statement.{statement}
+use Rattle.classes.proofs.in_range.Tie as tie
 
 returns : tie.Need-returns
 returns c = one-above _ _ _ (c .before .lo .ensures) (c .if1 .taken)

@@ -3,9 +3,9 @@ use mathlib.Core.Path.{_≡_, refl, sym, _∙_}
 use Prim.Native.Nat.{_+_, _≤_}
 use native.Mathlib.Omega.{arith}
 use Rattle.pack.specs.Image.{ranges, classIn}
-use Rattle.scan.proofs.Ranges.{halved, one-left}
-use Rattle.scan.proofs.classes.among.Statement.{statement}
-use Rattle.scan.proofs.classes.among.Tie as tie
+use Rattle.classes.proofs.Ranges.{halved, one-left}
+use Rattle.classes.proofs.among.Statement.{statement}
+use Rattle.classes.proofs.among.Tie as tie
 
 abbrev Inv-loop : tie.InvT-loop
 Inv-loop img byte from many r₀ left₀ r left = (1 ≤ left) × (r + left ≤ ranges img) × (classIn img byte many from ≡ classIn img byte left r)

@@ -1,8 +1,8 @@
 use borrow.Author.Needs.{needs}
 use mathlib.Core.Path.{_≡_, _∙_}
 use Rattle.shape.proofs.Good.{good-class}
-use Rattle.scan.proofs.classes.class_of.Statement.{statement}
-use Rattle.scan.proofs.classes.class_of.Tie as tie
+use Rattle.classes.proofs.class_of.Statement.{statement}
+use Rattle.classes.proofs.class_of.Tie as tie
 
 returns : tie.Need-returns
 returns c =
