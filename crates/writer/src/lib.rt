@@ -2,23 +2,29 @@
 use numbers::Answer;
 use numbers::Verdict;
 use text::Form;
+use text::Row;
 ghost use mathlib.Core.Path.{_≡_};
 ghost use lib.ListN.{length};
 ghost use Rattle.numbers.specs.Front.{Delivers, bufferAfter};
 ghost use Rattle.pack.specs.Laid.{Sized};
 ghost use Rattle.text.specs.declared.Form.the-variants.{One, Two};
-ghost use Rattle.text.specs.Writer.{writeGood, write};
+ghost use Rattle.text.specs.Writer.{textOf, writeGood, write};
 
-mod cells; // cells.rt: the cells of a row in form 2
-mod fields; // fields.rt: bytes, names, numbers and sets
-mod lines; // lines.rt: rows, lines, tables and the whole text
+// The bytes of the text of an image: 7 for the first line, and 5 for the name of the second.
+fn text_size(img: &[u16], form: Form) -> usize
+    requires { ⌜ Sized (now img) ⌝ }
+    ensures { λ r. ⌜ r ≡ length (textOf form (now (img .entry))) ⌝ }
+{
+    let sizes = lengths::lines_size(img, 1, 5, Row::Numbers(8), 1);
+    7 + sizes + lengths::tables_size(img, form)
+}
 
 // The text of an image of good shape: its length first, by a walk that writes nothing, and then its bytes.
 pub fn write_good(img: &[u16], buffer: &mut [u8], form: Form) -> Answer
     requires { ⌜ Sized (now img) ⌝ }
     ensures { λ r. ⌜ Delivers (writeGood form (now (img .entry)) (length (now (buffer .entry)))) (now (buffer .entry)) (now (buffer .exit)) r ⌝ }
 {
-    let size = lines::text_size(img, form);
+    let size = text_size(img, form);
     if numbers::LONGEST_TEXT < size {
         return Answer {
             code: numbers::TEXT_TOO_LONG,
@@ -31,7 +37,7 @@ pub fn write_good(img: &[u16], buffer: &mut [u8], form: Form) -> Answer
             number: size,
         };
     }
-    let end = lines::write_text(buffer, img, form);
+    let end = putlines::write_text(buffer, img, form);
     Answer {
         code: numbers::DONE,
         number: end,

@@ -2,7 +2,8 @@
 use mathlib.Core.Path.{refl}
 use borrow.Author.Needs.{needs}
 use native.Mathlib.Omega.{arith}
-use Rattle.writer.proofs.Laws.{wrote-length, text-long, text-small, text-done}
+use Rattle.putfields.proofs.WriteLaws.{wrote-length}
+use Rattle.writer.proofs.Laws.{text-long, text-small, text-done}
 use Rattle.writer.proofs.write_good.Statement.{statement}
 use Rattle.writer.proofs.write_good.Tie as tie
 

@@ -1,0 +1,2 @@
+pub mod FieldSizes
+pub mod LineSizes

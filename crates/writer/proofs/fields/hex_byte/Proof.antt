@@ -1,8 +1,0 @@
--- `writer::fields::hex_byte` meets its contract: the table of digits keeps the rule at each of its entries.
-use borrow.Author.Needs.{needs}
-use Rattle.writer.proofs.Laws.{hex-digit}
-use Rattle.writer.proofs.fields.hex_byte.Statement.{statement}
-use Rattle.writer.proofs.fields.hex_byte.Tie as tie
-
-pub hex-byte-spec : {M : Type 1} → statement M
-hex-byte-spec = tie.close (tie.spec (λ c. search needs) (λ c. hex-digit _ (c .pre)))
