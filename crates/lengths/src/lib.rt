@@ -123,7 +123,7 @@ pub fn lines_size(img: &[u16], i: usize, name: usize, row: Row, n: usize) -> usi
     while left != 0 {
         left -= 1;
         sum += name + row_size(img, from, row);
-        from += text::row_width(row);
+        from += rowkinds::row_width(row);
     }
     sum
 }
@@ -134,13 +134,13 @@ fn table_size(img: &[u16], from: usize, i: usize, form: Form) -> usize
     ensures { λ r. ⌜ (length (tableText form (now (img .entry)) i from) ≡ r) × (r ≤ 1000 * (longLine + 7)) ⌝ }
 {
     let mut name = [0u8; text::LONGEST_NAME];
-    let size = text::name_of(i, &mut name);
+    let size = names::name_of(i, &mut name);
     lines_size(
         img,
         from,
         size,
-        text::row_of(img, i, form),
-        text::lines_of(img, i),
+        rowkinds::row_of(img, i, form),
+        rowkinds::lines_of(img, i),
     )
 }
 
@@ -149,7 +149,7 @@ pub fn table_words(img: &[u16], i: usize, form: Form) -> usize
     requires { ⌜ (Sized (now img)) × ((i < 9) × (tableAt form (now img) i .lines * rowWidth (tableAt form (now img) i .row) ≤ largestImage)) ⌝ }
     ensures { λ r. ⌜ r ≡ tableAt form (now (img .entry)) i .lines * rowWidth (tableAt form (now (img .entry)) i .row) ⌝ }
 {
-    text::lines_of(img, i) * text::row_width(text::row_of(img, i, form))
+    rowkinds::lines_of(img, i) * rowkinds::row_width(rowkinds::row_of(img, i, form))
 }
 
 // The bytes of the tables.

@@ -177,7 +177,7 @@ pub fn write_fields(
     while left != 0 {
         left -= 1;
         to = write_field(out, to, img, from, kind);
-        to = put(out, to, text::after(left, end));
+        to = put(out, to, rowkinds::after(left, end));
         from += width(kind);
     }
     to

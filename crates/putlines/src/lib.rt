@@ -73,7 +73,7 @@ fn write_lines(
     while left != 0 {
         left -= 1;
         to = write_line(out, to, img, from, name, row);
-        from += text::row_width(row);
+        from += rowkinds::row_width(row);
     }
     to
 }
@@ -84,15 +84,15 @@ fn write_table(out: &mut [u8], at: usize, img: &[u16], from: usize, i: usize, fo
     ensures { λ r. ⌜ Wrote (tableText form (now (img .entry)) i from) (now (out .entry)) at (now (out .exit)) r ⌝ }
 {
     let mut name = [0u8; text::LONGEST_NAME];
-    let size = text::name_of(i, &mut name);
+    let size = names::name_of(i, &mut name);
     write_lines(
         out,
         at,
         img,
         from,
         &name[..size],
-        text::row_of(img, i, form),
-        text::lines_of(img, i),
+        rowkinds::row_of(img, i, form),
+        rowkinds::lines_of(img, i),
     )
 }
 

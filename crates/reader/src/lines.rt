@@ -44,7 +44,7 @@ pub fn read_lines(
             };
         }
         start = p;
-        words += text::row_width(row);
+        words += rowkinds::row_width(row);
         left -= 1;
     }
     Cursor {

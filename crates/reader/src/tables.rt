@@ -69,14 +69,14 @@ fn read_table(text: &[u8], form: Form, head: &[u16], img: &mut [u16], c: Cursor,
     ensures { λ r. ⌜ ReadsLines (thenLines (linesOf (now (text .entry)) (now (img .entry)) c) (readLines (tableAt form (now (head .entry)) i .name) (tableAt form (now (head .entry)) i .row) (tableAt form (now (head .entry)) i .lines))) (now (text .entry)) (now (img .exit)) (c .words + tableAt form (now (head .entry)) i .lines * rowWidth (tableAt form (now (head .entry)) i .row)) r ⌝ }
 {
     let mut name = [0u8; text::LONGEST_NAME];
-    let size = text::name_of(i, &mut name);
+    let size = names::name_of(i, &mut name);
     read_lines(
         text,
         img,
         c,
         &name[..size],
-        text::row_of(head, i, form),
-        text::lines_of(head, i),
+        rowkinds::row_of(head, i, form),
+        rowkinds::lines_of(head, i),
     )
 }
 

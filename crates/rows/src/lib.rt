@@ -64,7 +64,7 @@ fn read_numbers(text: &[u8], img: &mut [u16], at: usize, words: usize, n: usize,
     let mut left = n;
     while left != 0 {
         left -= 1;
-        let next = text::after(left, end);
+        let next = rowkinds::after(left, end);
         if one_digit(text, p, next) {
             img[to] = (text[p] - 48) as u16;
             p += 2;
@@ -101,7 +101,7 @@ fn read_sets(text: &[u8], img: &mut [u16], at: usize, words: usize, n: usize, en
         if used == 0 {
             return text.len() + 1;
         }
-        if !stands(text, p + used, text::after(left, end)) {
+        if !stands(text, p + used, rowkinds::after(left, end)) {
             return text.len() + 1;
         }
         set_words(img, to, f.value);
@@ -138,7 +138,7 @@ fn read_symbols(text: &[u8], img: &mut [u16], at: usize, words: usize) -> usize
         return text.len() + 1;
     }
     let len = value as u16;
-    if !stands(text, at + used, text::after(len as usize, NEWLINE)) {
+    if !stands(text, at + used, rowkinds::after(len as usize, NEWLINE)) {
         return text.len() + 1;
     }
     symbols_then(text, img, at + used + 1, words, len)

@@ -1,4 +1,4 @@
--- `text::put_name` meets its contract. The loop's invariant: the first i bytes of the row are those of the name.
+-- `names::put_name` meets its contract. The loop's invariant: the first i bytes of the row are those of the name.
 use mathlib.Core.Path.{_≡_, refl}
 use Prim.Native.Nat.{_≤_, _-_}
 use native.Mathlib.Numerals.{add-one}
@@ -6,8 +6,8 @@ use native.Mathlib.Omega.{arith}
 use borrow.Author.Needs.{needs}
 use lib.ListN.{length, take, length-set}
 use lib.Seq.{take-suc, take-suc-set, take-all}
-use Rattle.text.proofs.put_name.Statement.{statement}
-use Rattle.text.proofs.put_name.Tie as tie
+use Rattle.names.proofs.put_name.Statement.{statement}
+use Rattle.names.proofs.put_name.Tie as tie
 
 abbrev Inv-loop : tie.InvT-loop
 Inv-loop row₀ name i₀ row i = (i ≤ length name) × (length row ≡ length row₀) × (take i row ≡ take i name)

@@ -1,8 +1,8 @@
--- `text::cells_in` meets its contract.
+-- `rowkinds::cells_in` meets its contract.
 use borrow.Author.Needs.{needs}
 use Rattle.text.specs.Form.{cellsIn}
-use Rattle.text.proofs.cells_in.Statement.{statement}
-use Rattle.text.proofs.cells_in.Tie as tie
+use Rattle.rowkinds.proofs.cells_in.Statement.{statement}
+use Rattle.rowkinds.proofs.cells_in.Tie as tie
 
 pub cells-in-spec : {M : Type 1} → statement M
 unfolding cellsIn

@@ -1,10 +1,10 @@
--- `text::name_of` meets its contract.
+-- `names::name_of` meets its contract.
 use native.Mathlib.Omega.{arith}
 use borrow.Author.Needs.{needs}
 use Rattle.text.specs.Form.{tablesOf}
 use Rattle.text.proofs.Tables.{last-place}
-use Rattle.text.proofs.name_of.Statement.{statement}
-use Rattle.text.proofs.name_of.Tie as tie
+use Rattle.names.proofs.name_of.Statement.{statement}
+use Rattle.names.proofs.name_of.Tie as tie
 
 pub name-of-spec : {M : Type 1} → statement M
 unfolding tablesOf

@@ -1,9 +1,9 @@
--- `text::row_width` meets its contract.
+-- `rowkinds::row_width` meets its contract.
 use borrow.Author.Needs.{needs}
 use native.Mathlib.Omega.{arith}
 use Rattle.text.specs.Form.{rowWidth}
-use Rattle.text.proofs.row_width.Statement.{statement}
-use Rattle.text.proofs.row_width.Tie as tie
+use Rattle.rowkinds.proofs.row_width.Statement.{statement}
+use Rattle.rowkinds.proofs.row_width.Tie as tie
 
 mul-result : tie.Need-mul-result
 unfolding rowWidth

@@ -1,7 +1,0 @@
--- `text::after` meets its contract.
-use Rattle.text.proofs.Lines.{after-last, after-more}
-use Rattle.text.proofs.after.Statement.{statement}
-use Rattle.text.proofs.after.Tie as tie
-
-pub after-spec : {M : Type 1} → statement M
-after-spec = tie.close (tie.spec (λ c. after-last _ _ (c .if1 .taken)) (λ c. after-more _ _ (c .if1 .left)))
