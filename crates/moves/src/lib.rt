@@ -46,7 +46,7 @@ pub fn to_form2(text: &[u8], buffer: &mut [u8]) -> Answer
             number: 0,
         };
     }
-    let form = reader::form_of(text);
+    let form = firstline::form_of(text);
     match form {
         Form::One => rewrite(text, buffer, Form::Two),
         Form::Two => Answer {
@@ -67,7 +67,7 @@ pub fn to_form1(text: &[u8], buffer: &mut [u8]) -> Answer
             number: 0,
         };
     }
-    let form = reader::form_of(text);
+    let form = firstline::form_of(text);
     match form {
         Form::One => Answer {
             code: numbers::NOT_THE_FORM,

@@ -4,8 +4,8 @@ use mathlib.Core.Bool.{true, false}
 use mathlib.Core.List.{List, [], _∷_}
 use Prim.Native.Nat.{ℕ, _+_, _-_, _<_, _≤_}
 use native.Mathlib.Omega.{arith}
-use lib.ListN.{length, take, drop, set, length-take, length-drop, drop-of-length-le}
-use lib.Seq.{drop-cons, take-suc-set, take-all, take-at}
+use lib.ListN.{length, take, drop, set, length-take, length-drop}
+use lib.Seq.{take-suc-set, take-all, take-at}
 use borrow.Author.Tests.{lt-ltb, le-ltb}
 use Rattle.pack.specs.Image.{largestImage, needed}
 use Rattle.numbers.specs.declared.Answer.{Answer}
@@ -19,30 +19,19 @@ use Rattle.numbers.specs.Verdicts.{isWrong}
 use Rattle.shape.specs.Shape.{each, sizeRule, shape}
 use Rattle.shape.proofs.Laws.{is-good, is-wrong, sizes-sized}
 use Rattle.text.specs.declared.Form.{Form}
-use Rattle.text.specs.declared.Form.the-variants.{One, Two}
 use Rattle.text.specs.Form.{packLine, sizes, tablesOf, tableAt, tableWords}
 use Rattle.text.specs.Reader.{Line, Lines, thenRead, expect, readRow, thenLines, asLine, readLines, readTables, limited, readHead, ended, readIn, formOf, readAll, judge, read}
 use Rattle.text.specs.Reader.Line.{wrong, took}
 use Rattle.text.specs.Reader.Lines.{wrongFrom, all}
 use Rattle.text.proofs.Lines.{lines-lines, lines-all}
 use Rattle.text.proofs.Tables.{tablesFrom, tables-on, tables-end, tables-fit, tables-needed}
-use Rattle.reader.specs.declared.lines.Cursor.{Cursor}
+use Rattle.readlines.specs.declared.Cursor.{Cursor}
 use Rattle.fields.specs.Steps.{Placed}
-use Rattle.reader.specs.Steps.{linesOf, ReadsLines}
+use Rattle.readlines.specs.Steps.{linesOf, ReadsLines}
 use Rattle.fields.proofs.PlaceLaws.{took-is, wrong-is}
-use Rattle.reader.proofs.LineLaws.{lines-go}
+use Rattle.readlines.proofs.LineLaws.{lines-go}
 
 -- ---- the first two lines
--- The first line tells the form.
-module _ (text : List ℕ) (p : ℕ) (b : Placed (expect (packLine Two) [] text) text [] p) where
-  pub form-one : length text < p → One ≡ formOf text
-  unfolding formOf
-  form-one h = let z : wrong ≡ expect (packLine Two) [] text = wrong-is _ _ _ _ b h in simp (formOf, ← z)
-
-  pub form-two : p ≤ length text → Two ≡ formOf text
-  unfolding formOf
-  form-two h = let z : took [] (drop p text) ≡ expect (packLine Two) [] text = took-is _ _ _ _ b h in simp (formOf, ← z)
-
 module _ (form : Form) (text : List ℕ) (start : ℕ) (b : Placed (expect (packLine form) (1 ∷ []) text) text (1 ∷ []) start) where
   pub head-wrong : (img : List ℕ) → length text < start → ReadsLines (readHead form text) text img 9 (record { ok = false; at = 0; words = 1 })
   unfolding readHead thenLines asLine linesOf
@@ -102,24 +91,6 @@ head-limits form text w rest e = go (expect (packLine form) (1 ∷ []) text) e
         → each (sizeRule w) 8 1 ≡ Good
     go wrong q = let y : _≡_ {A = ℕ} 0 1 = cc in absurd (omega arith)
     go (took u v) q = line-limits (thenRead (expect (sizes .name) u v) (readRow (sizes .row))) v w rest q
-
--- ---- the end, and the whole
-module _ (text img : List ℕ) (c : Cursor) (i : c .at ≤ length text) (e : c .ok ≡ true) where
-  pub end-more : c .at < length text → ReadsLines (thenLines (linesOf text img c) ended) text img (c .words) (record { ok = false; at = c .at; words = c .words })
-  unfolding ended linesOf
-  end-more h = record {
-    means = sym (lines-go text img c ended e ∙ rw (drop-cons text (c .at) 0 h));
-    inside = i;
-    fits = omega arith;
-  }
-
-  pub end-here : length text ≤ c .at → ReadsLines (thenLines (linesOf text img c) ended) text img (c .words) c
-  unfolding ended linesOf thenLines
-  end-here h = record {
-    means = simp (linesOf, e, drop-of-length-le text h);
-    inside = i;
-    fits = omega arith;
-  }
 
 -- ---- tables
 module _ (form : Form) (head : List ℕ) (i : ℕ) (l : Lines) where

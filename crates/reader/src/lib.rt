@@ -1,7 +1,7 @@
 // Pack text to image.
-use crate::lines::Cursor;
 use numbers::Answer;
 use numbers::Verdict;
+use readlines::Cursor;
 use text::Form;
 ghost use mathlib.Core.Path.{_≡_};
 ghost use mathlib.Core.Bool.{true};
@@ -10,11 +10,10 @@ ghost use Prim.Native.Nat.{_≤_};
 ghost use lib.ListN.{length};
 ghost use Rattle.numbers.specs.Front.{deliver, Delivers, bufferAfter};
 ghost use Rattle.pack.specs.Image.{needed};
-ghost use Rattle.reader.specs.Steps.{ReadsLines};
-ghost use Rattle.text.specs.Reader.{readHead, readIn, formOf, judge, read};
+ghost use Rattle.readlines.specs.Steps.{ReadsLines};
+ghost use Rattle.text.specs.Reader.{readHead, readIn, judge, read};
 ghost use Rattle.text.specs.Reader.Lines.{all};
 
-mod lines; // lines.rt: the lines of a table
 mod tables; // tables.rt: the first two lines, the tables and the whole text
 
 // The scratch image is cleared for each call, so there are three sizes of it, and the sizes in the head say which one is enough.
@@ -61,16 +60,6 @@ fn read_by(
     judge(&img[..words], buffer)
 }
 
-// The form of a text: its first line tells it. Where it is that of neither, form 1 finds it wrong.
-pub fn form_of(text: &[u8]) -> Form
-    ensures { λ r. ⌜ r ≡ formOf (now (text .entry)) ⌝ }
-{
-    if text.len() < tables::first_line(text, Form::Two) {
-        return Form::One;
-    }
-    Form::Two
-}
-
 // Reads a pack text of either form. Codes 2, 1, 4 and 3 leave the buffer untouched; done puts the words of the image at its front.
 pub fn read(text: &[u8], buffer: &mut [u16]) -> Answer
     ensures { λ r. ⌜ r ≡ read (now (text .entry)) (now (buffer .entry)) .answer ⌝ }
@@ -83,7 +72,7 @@ pub fn read(text: &[u8], buffer: &mut [u16]) -> Answer
         };
     }
     let mut head = [0u16; pack::image::HEAD_WORDS];
-    let form = form_of(text);
+    let form = firstline::form_of(text);
     let c = tables::read_head(text, form, &mut head);
     let ok = c.ok;
     let at = c.at;

@@ -1,31 +1,20 @@
 // Reading the first two lines, the tables and the whole text.
-use crate::lines::Cursor;
-use crate::lines::read_lines;
+use firstline::first_line;
 use numbers::is_wrong;
-use rows::expect;
+use readlines::Cursor;
+use readlines::ended;
+use readlines::read_lines;
 use rows::read_line;
 use text::Form;
 use text::Row;
 ghost use mathlib.Core.Path.{_≡_};
 ghost use mathlib.Core.Bool.{true};
-ghost use mathlib.Core.List.{List};
-ghost use Prim.Native.Nat.{ℕ, _+_, _*_, _<_, _≤_};
+ghost use Prim.Native.Nat.{_+_, _*_, _<_, _≤_};
 ghost use lib.ListN.{length};
 ghost use Rattle.pack.specs.Image.{largestImage, needed};
-ghost use Rattle.text.specs.Form.{packLine, rowWidth, tableAt, tablesOf, tableWords};
-ghost use Rattle.text.specs.Reader.{expect, thenLines, readLines, readTables, readHead, ended, readIn};
-ghost use Rattle.fields.specs.Steps.{Placed};
-ghost use Rattle.reader.specs.Steps.{linesOf, ReadsLines};
-
-// The first line of a form.
-pub fn first_line(text: &[u8], form: Form) -> usize
-    ensures { λ r. ⌜ ((words : List ℕ) → Placed (expect (packLine form) words (now (text .entry))) (now (text .entry)) words r) ⌝ }
-{
-    match form {
-        Form::One => expect(text, 0, b"pack=1\n"),
-        Form::Two => expect(text, 0, b"pack=2\n"),
-    }
-}
+ghost use Rattle.text.specs.Form.{rowWidth, tableAt, tablesOf, tableWords};
+ghost use Rattle.text.specs.Reader.{thenLines, readLines, readTables, readHead, readIn};
+ghost use Rattle.readlines.specs.Steps.{linesOf, ReadsLines};
 
 // The first two lines. The limits of the sizes are a part of the form of their line.
 pub fn read_head(text: &[u8], form: Form, head: &mut [u16]) -> Cursor
@@ -92,27 +81,6 @@ fn read_tables(text: &[u8], form: Form, head: &[u16], img: &mut [u16], c: Cursor
         i += 1;
     }
     d
-}
-
-// Nothing follows the last line.
-fn ended(text: &[u8], c: Cursor) -> Cursor
-    requires { ⌜ c .at ≤ length (now text) ⌝ }
-    ensures { λ r. ⌜ ((img : List ℕ) → ReadsLines (thenLines (linesOf (now (text .entry)) img c) ended) (now (text .entry)) img (c .words) r) ⌝ }
-{
-    let ok = c.ok;
-    let at = c.at;
-    let words = c.words;
-    if !ok {
-        return c;
-    }
-    if at < text.len() {
-        return Cursor {
-            ok: false,
-            at,
-            words,
-        };
-    }
-    c
 }
 
 // The whole text, where its head has been read into a row of its own and is right. So its sizes stay while the tables are read into the image.

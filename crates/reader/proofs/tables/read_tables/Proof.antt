@@ -8,8 +8,8 @@ use lib.ListN.{length}
 use Rattle.text.specs.Form.{tablesOf, tableWords}
 use Rattle.text.specs.Reader.{thenLines, readTables}
 use Rattle.text.proofs.Tables.{tablesFrom, words-on}
-use Rattle.reader.specs.Steps.{linesOf}
-use Rattle.reader.proofs.LineLaws.{lines-as}
+use Rattle.readlines.specs.Steps.{linesOf}
+use Rattle.readlines.proofs.LineLaws.{lines-as}
 use Rattle.reader.proofs.TableLaws.{table-on, tables-done}
 use Rattle.reader.proofs.tables.read_tables.Statement.{statement}
 use Rattle.reader.proofs.tables.read_tables.Tie as tie

@@ -1,10 +1,9 @@
--- `reader::tables::ended` meets its contract.
+-- `readlines::ended` meets its contract.
 use borrow.Author.Needs.{needs}
 use borrow.Author.Tests.{not-true, not-false}
-use Rattle.reader.proofs.LineLaws.{lines-pass}
-use Rattle.reader.proofs.TableLaws.{end-more, end-here}
-use Rattle.reader.proofs.tables.ended.Statement.{statement}
-use Rattle.reader.proofs.tables.ended.Tie as tie
+use Rattle.readlines.proofs.LineLaws.{lines-pass, end-more, end-here}
+use Rattle.readlines.proofs.ended.Statement.{statement}
+use Rattle.readlines.proofs.ended.Tie as tie
 
 returns : tie.Need-returns
 returns c = λ img. lines-pass _ _ _ _ _ _ (not-true _ (c .if1 .taken)) (search needs) (search needs)

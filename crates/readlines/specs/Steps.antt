@@ -7,7 +7,7 @@ use Prim.Native.Nat.{ℕ, _≤_}
 use lib.ListN.{length, take, drop}
 use Rattle.text.specs.Reader.{Lines}
 use Rattle.text.specs.Reader.Lines.{wrongFrom, all}
-use Rattle.reader.specs.declared.lines.Cursor.{Cursor}
+use Rattle.readlines.specs.declared.Cursor.{Cursor}
 
 -- What a cursor stands for after lines.
 unfoldable pub linesOf : List ℕ → List ℕ → Cursor → Lines

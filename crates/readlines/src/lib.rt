@@ -1,12 +1,13 @@
-// Reading the lines of a table into an image, one after the other.
+// Reading the lines of a table into an image, one after the other, and the end of the text.
 use rows::read_line;
 use text::Row;
-ghost use Prim.Native.Nat.{_+_, _*_, _≤_};
+ghost use mathlib.Core.List.{List};
+ghost use Prim.Native.Nat.{ℕ, _+_, _*_, _≤_};
 ghost use lib.ListN.{length};
 ghost use Rattle.pack.specs.Image.{largestImage};
 ghost use Rattle.text.specs.Form.{rowWidth};
-ghost use Rattle.text.specs.Reader.{thenLines, readLines};
-ghost use Rattle.reader.specs.Steps.{linesOf, ReadsLines};
+ghost use Rattle.text.specs.Reader.{thenLines, readLines, ended};
+ghost use Rattle.readlines.specs.Steps.{linesOf, ReadsLines};
 
 // How far the reader is between two lines: whether all was right so far, the place in the text, and the words of the image so far.
 pub struct Cursor {
@@ -52,4 +53,25 @@ pub fn read_lines(
         at: start,
         words,
     }
+}
+
+// Nothing follows the last line.
+pub fn ended(text: &[u8], c: Cursor) -> Cursor
+    requires { ⌜ c .at ≤ length (now text) ⌝ }
+    ensures { λ r. ⌜ ((img : List ℕ) → ReadsLines (thenLines (linesOf (now (text .entry)) img c) ended) (now (text .entry)) img (c .words) r) ⌝ }
+{
+    let ok = c.ok;
+    let at = c.at;
+    let words = c.words;
+    if !ok {
+        return c;
+    }
+    if at < text.len() {
+        return Cursor {
+            ok: false,
+            at,
+            words,
+        };
+    }
+    c
 }

@@ -1,4 +1,4 @@
--- `reader::lines::read_lines` meets its contract. The loop's invariant: the lines that are left, read from where it stands, give the same as
+-- `readlines::read_lines` meets its contract. The loop's invariant: the lines that are left, read from where it stands, give the same as
 -- all of them.
 use mathlib.Core.Path.{_≡_, refl, sym, _∙_}
 use Prim.Native.Nat.{_+_, _*_, _≤_}
@@ -8,9 +8,9 @@ use native.Mathlib.Omega.{arith}
 use lib.ListN.{length, take, drop}
 use Rattle.text.specs.Form.{rowWidth}
 use Rattle.text.specs.Reader.{readLines}
-use Rattle.reader.proofs.LineLaws.{one-more, lines-pass, lines-fail, lines-went, lines-wrong, lines-on, lines-end}
-use Rattle.reader.proofs.lines.read_lines.Statement.{statement}
-use Rattle.reader.proofs.lines.read_lines.Tie as tie
+use Rattle.readlines.proofs.LineLaws.{one-more, lines-pass, lines-fail, lines-went, lines-wrong, lines-on, lines-end}
+use Rattle.readlines.proofs.read_lines.Statement.{statement}
+use Rattle.readlines.proofs.read_lines.Tie as tie
 
 abbrev Inv-loop : tie.InvT-loop
 Inv-loop text img₀ name row n ok start₀ words₀ left₀ img start words left =

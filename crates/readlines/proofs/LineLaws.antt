@@ -1,4 +1,4 @@
--- Lines: what a cursor stands for after them, over plain variables.
+-- Lines: what a cursor stands for after them, and at the end of the text, over plain variables.
 use mathlib.Core.Path.{_≡_, refl, sym, ap, _∙_}
 use mathlib.Core.Bool.{true, false}
 use mathlib.Core.List.{List}
@@ -6,14 +6,15 @@ use Prim.Native.Nat.{ℕ, zero, suc, _+_, _*_, _-_, _<_, _≤_}
 use native.Mathlib.Nat.{suc-mul}
 use native.Mathlib.Numerals.{sub-one}
 use native.Mathlib.Omega.{arith}
-use lib.ListN.{length, take, drop}
+use lib.ListN.{length, take, drop, drop-of-length-le}
+use lib.Seq.{drop-cons}
 use Rattle.text.specs.declared.Row.{Row}
-use Rattle.text.specs.Reader.{Lines, thenRead, expect, readRow, thenLines, asLine, readLines}
+use Rattle.text.specs.Reader.{Lines, thenRead, expect, readRow, thenLines, asLine, readLines, ended}
 use Rattle.text.specs.Reader.Lines.{wrongFrom, all}
 use Rattle.fields.specs.Steps.{Placed}
 use Rattle.fields.proofs.PlaceLaws.{took-is, wrong-is}
-use Rattle.reader.specs.declared.lines.Cursor.{Cursor}
-use Rattle.reader.specs.Steps.{linesOf, ReadsLines}
+use Rattle.readlines.specs.declared.Cursor.{Cursor}
+use Rattle.readlines.specs.Steps.{linesOf, ReadsLines}
 
 -- One turn of a table.
 pub one-more : (left w : ℕ) → (left ≡ 0 → ⊥) → left * w ≡ (left - 1) * w + w
@@ -64,3 +65,21 @@ lines-end name row left w bytes z = rw z
 
 pub lines-as : {lines : Lines} {text img : List ℕ} {most : ℕ} {c : Cursor} (lines′ : Lines) → lines′ ≡ lines → ReadsLines lines text img most c → ReadsLines lines′ text img most c
 lines-as lines′ e r = record { means = r .means ∙ sym e; inside = r .inside; fits = r .fits }
+
+-- The end of the text.
+module _ (text img : List ℕ) (c : Cursor) (i : c .at ≤ length text) (e : c .ok ≡ true) where
+  pub end-more : c .at < length text → ReadsLines (thenLines (linesOf text img c) ended) text img (c .words) (record { ok = false; at = c .at; words = c .words })
+  unfolding ended linesOf
+  end-more h = record {
+    means = sym (lines-go text img c ended e ∙ rw (drop-cons text (c .at) 0 h));
+    inside = i;
+    fits = omega arith;
+  }
+
+  pub end-here : length text ≤ c .at → ReadsLines (thenLines (linesOf text img c) ended) text img (c .words) c
+  unfolding ended linesOf thenLines
+  end-here h = record {
+    means = simp (linesOf, e, drop-of-length-le text h);
+    inside = i;
+    fits = omega arith;
+  }

@@ -1,8 +1,8 @@
--- `reader::tables::first_line` meets its contract.
+-- `firstline::first_line` meets its contract.
 use borrow.Author.Needs.{needs}
 use Rattle.text.specs.Form.{packLine}
-use Rattle.reader.proofs.tables.first_line.Statement.{statement}
-use Rattle.reader.proofs.tables.first_line.Tie as tie
+use Rattle.firstline.proofs.first_line.Statement.{statement}
+use Rattle.firstline.proofs.first_line.Tie as tie
 
 returns : tie.Need-returns
 unfolding packLine

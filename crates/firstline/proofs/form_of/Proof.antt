@@ -1,9 +1,9 @@
--- `reader::form_of` meets its contract.
+-- `firstline::form_of` meets its contract.
 use mathlib.Core.List.{[]}
 use borrow.Author.Needs.{needs}
-use Rattle.reader.proofs.TableLaws.{form-one, form-two}
-use Rattle.reader.proofs.form_of.Statement.{statement}
-use Rattle.reader.proofs.form_of.Tie as tie
+use Rattle.firstline.proofs.FormLaws.{form-one, form-two}
+use Rattle.firstline.proofs.form_of.Statement.{statement}
+use Rattle.firstline.proofs.form_of.Tie as tie
 
 returns : tie.Need-returns
 returns c = form-one _ _ (c .before .first-line .ensures []) (c .if1 .taken)
