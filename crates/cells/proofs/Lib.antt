@@ -1,2 +1,2 @@
-pub mod CellLaws
+pub mod TurnLaws
 pub mod ZeroLaws

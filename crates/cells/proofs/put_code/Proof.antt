@@ -1,6 +1,6 @@
 -- `cells::put_code` meets its contract.
 use borrow.Author.Needs.{needs}
-use Rattle.cells.proofs.CellLaws.{code-put}
+use Rattle.cells.proofs.TurnLaws.{code-put}
 use Rattle.cells.proofs.put_code.Statement.{statement}
 use Rattle.cells.proofs.put_code.Tie as tie
 

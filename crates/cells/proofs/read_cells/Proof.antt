@@ -8,7 +8,8 @@ use native.Mathlib.Omega.{arith}
 use lib.ListN.{length, take, drop}
 use Rattle.text.specs.Reader.{readCells}
 use Rattle.fields.proofs.PlaceLaws.{placed-wrong}
-use Rattle.cells.proofs.CellLaws.{stood, not-stood, cells-begin, cells-done, cells-on}
+use Rattle.onecell.proofs.CellLaws.{stood, not-stood}
+use Rattle.cells.proofs.TurnLaws.{cells-begin, cells-done, cells-on}
 use Rattle.cells.proofs.read_cells.Statement.{statement}
 use Rattle.cells.proofs.read_cells.Tie as tie
 

@@ -6,7 +6,7 @@ use Prim.Native.Nat.{ℕ, _+_, _-_, _<_, _≤_}
 use lib.ListN.{length, drop}
 use Rattle.text.specs.Reader.{readCells, zeros}
 use Rattle.text.specs.Reader.Line.{wrong}
-use Rattle.cells.specs.declared.Cell.{Cell}
+use Rattle.onecell.specs.declared.Cell.{Cell}
 
 -- The cell that stands next among the columns from `least` on of a row of n, where the line does not end: a place behind the text says
 -- that it is wrong, and else the columns before it are 0.

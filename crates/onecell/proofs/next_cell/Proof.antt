@@ -1,12 +1,12 @@
--- `cells::next_cell` meets its contract.
+-- `onecell::next_cell` meets its contract.
 use mathlib.Core.Path.{refl}
 use borrow.Author.Needs.{needs}
 use borrow.Author.Tests.{not-true, not-false}
 use native.Mathlib.Omega.{arith}
 use Rattle.text.specs.Form.{before}
-use Rattle.cells.proofs.CellLaws.{stood, not-stood, next-none, no-comma}
-use Rattle.cells.proofs.next_cell.Statement.{statement}
-use Rattle.cells.proofs.next_cell.Tie as tie
+use Rattle.onecell.proofs.CellLaws.{stood, not-stood, next-none, no-comma}
+use Rattle.onecell.proofs.next_cell.Statement.{statement}
+use Rattle.onecell.proofs.next_cell.Tie as tie
 
 returns : tie.Need-returns
 unfolding before

@@ -1,12 +1,12 @@
--- `cells::cell_at` meets its contract.
+-- `onecell::cell_at` meets its contract.
 use Prim.Native.Nat.{_≤_}
 use borrow.Author.Needs.{needs}
 use borrow.Author.Tests.{not-true, not-false}
 use native.Mathlib.Omega.{arith}
 use Rattle.text.proofs.Decimal.{number-small}
-use Rattle.cells.proofs.CellLaws.{next-none, next-some, no-number, not-rising, outside, no-colon, no-code, cell-there}
-use Rattle.cells.proofs.cell_at.Statement.{statement}
-use Rattle.cells.proofs.cell_at.Tie as tie
+use Rattle.onecell.proofs.CellLaws.{next-none, next-some, no-number, not-rising, outside, no-colon, no-code, cell-there}
+use Rattle.onecell.proofs.cell_at.Statement.{statement}
+use Rattle.onecell.proofs.cell_at.Tie as tie
 
 returns : tie.Need-returns
 returns c first bytes e o =

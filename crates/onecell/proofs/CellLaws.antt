@@ -1,11 +1,11 @@
--- The cells of a row in form 2: what the tests of a cell say of the definitions, over plain variables.
+-- A cell of a row in form 2: what its tests say of the definitions, over plain variables.
 use mathlib.Core.Path.{_≡_, refl, sym, ap, _∙_}
 use mathlib.Core.Bool.{Bool, true, false}
 use mathlib.Core.List.{List, [], _∷_, _++_}
 use Prim.Native.Nat.{ℕ, suc, _+_, _-_, _<_, _≤_}
 use native.Mathlib.Omega.{arith}
 use lib.Dec.{eqb}
-use lib.ListN.{length, take, drop, set}
+use lib.ListN.{length, drop}
 use lib.Seq.{drop-drop}
 use borrow.Author.Tests.{eqb-true, eqb-false}
 use Rattle.pack.specs.Image.{largestImage}
@@ -13,15 +13,14 @@ use Rattle.text.specs.declared.Field.{Field}
 use Rattle.text.specs.Decimal.{readNumber, decimal}
 use Rattle.text.specs.Fields.{greatestWord}
 use Rattle.text.specs.Form.{newline, comma, colon, before}
-use Rattle.text.specs.Reader.{Line, thenRead, expect, readCode, readCell, readCells, zeros}
-use Rattle.text.specs.Reader.Line.{wrong, took}
-use Rattle.text.proofs.Cells.{code-none, code-some, cell-other, cell-here, cell-no-comma, cells-some, cells-skip, cells-over, cells-end}
+use Rattle.text.specs.Reader.{thenRead, expect, readCode, readCell, readCells, zeros}
+use Rattle.text.specs.Reader.Line.{wrong}
+use Rattle.text.proofs.Cells.{code-none, code-some, cell-other, cell-here, cell-no-comma, cells-some, cells-skip, cells-over}
 use Rattle.text.proofs.Decimal.{field, decimal-some}
 use Rattle.text.proofs.Lines.{expect-told}
-use Rattle.cells.specs.declared.Cell.{Cell}
-use Rattle.fields.specs.Steps.{whether, Placed}
-use Rattle.cells.specs.Steps.{NextCell}
-use Rattle.fields.proofs.PlaceLaws.{placed-took, stored-len}
+use Rattle.fields.specs.Steps.{whether}
+use Rattle.onecell.specs.declared.Cell.{Cell}
+use Rattle.onecell.specs.Steps.{NextCell}
 
 -- A byte that stands next.
 module _ (text : List ℕ) (at c : ℕ) (right : Bool) (s : (w : List ℕ) → whether right w (drop (at + 1) text) ≡ expect (c ∷ []) w (drop at text)) where
@@ -108,31 +107,3 @@ module _ (first : Bool) (bytes text : List ℕ) (least n : ℕ) where
 pub no-comma : (bytes text : List ℕ) (least n : ℕ) → ((w : List ℕ) → expect (newline ∷ []) w bytes ≡ wrong) → ((w : List ℕ) → expect (comma ∷ []) w bytes ≡ wrong)
     → (w : List ℕ) → readCells false (n - least) least w bytes ≡ wrong
 no-comma bytes text least n o z = none-of false bytes text least n o (λ d a b w. cell-no-comma d w [] bytes (z []))
-
--- ---- the turns of a row
-pub code-put : (img img′ : List ℕ) (words gap code : ℕ) → words + gap < length img → length img′ ≡ length img → take (words + gap) img′ ≡ take words img ++ zeros gap
-    → take (words + (gap + 1)) (set img′ (words + gap) code) ≡ (take words img ++ zeros gap) ++ (code ∷ [])
-code-put img img′ words gap code h l t =
-    let z : words + (gap + 1) ≡ words + gap + 1 = omega arith in
-    rw (z, stored-len img′ (words + gap) code (omega (arith, h, l)), t)
-
-pub cells-begin : (n : ℕ) (img bytes : List ℕ) (words : ℕ) → readCells true n 0 (take words img) bytes ≡ readCells true (n - 0) 0 (take (words + 0) img) bytes
-cells-begin n img bytes words =
-    let x : n - 0 ≡ n = omega arith in
-    let y : words + 0 ≡ words = omega arith in
-    rw (x, y)
-
-pub cells-done : (line : Line) (text img img′ : List ℕ) (words n next p : ℕ) (first : Bool) → next ≤ n → p < length text → drop p text ≡ newline ∷ drop (p + 1) text
-    → take (words + next + (n - next)) img′ ≡ take (words + next) img ++ zeros (n - next)
-    → line ≡ readCells first (n - next) next (take (words + next) img) (drop p text) → Placed line text (take (words + n) img′) (p + 1)
-cells-done line text img img′ words n next p first l h d t e =
-    let x : words + next + (n - next) ≡ words + n = omega (arith, l) in
-    placed-took line text (take (words + n) img′) (p + 1) (omega (arith, h))
-    (rw (← x, t) (sym (e ∙ rw d (cells-end first (n - next) next (take (words + next) img) (drop (p + 1) text)))))
-
-pub cells-on : (text bytes img img′ : List ℕ) (words n next : ℕ) (first : Bool) (c : Cell) → NextCell first bytes text next n c → c .at ≤ length text
-    → take (words + next + (c .column - next + 1)) img′ ≡ (take (words + next) img ++ zeros (c .column - next)) ++ (c .code ∷ [])
-    → readCells first (n - next) next (take (words + next) img) bytes ≡ readCells false (n - (c .column + 1)) (c .column + 1) (take (words + (c .column + 1)) img′) (drop (c .at) text)
-cells-on text bytes img img′ words n next first c q h t =
-    let x : words + next + (c .column - next + 1) ≡ words + (c .column + 1) = omega (arith, q .rises h) in
-    q .some h (take (words + next) img) ∙ rw (← t, x)
