@@ -2,26 +2,11 @@
 use mathlib.Core.Path.{_≡_}
 use mathlib.Core.Bool.{Bool, true, false}
 use mathlib.Core.List.{List}
-use Prim.Native.Nat.{ℕ, zero, suc, _+_, _*_, _≤_}
+use Prim.Native.Nat.{ℕ, _+_, _≤_}
 use lib.Dec.{leb}
 use lib.ListN.{length, getD, drop}
-use Rattle.text.specs.Fields.{hexDigit}
 use Rattle.text.specs.Reader.{Line}
 use Rattle.text.specs.Reader.Line.{wrong, took}
-
--- The value of four hex digits, and 65536 where one of them is none.
-unfoldable pub hexFour : ℕ → ℕ → ℕ → ℕ → ℕ
-hexFour a b c d =
-    elim (hexDigit a) [
-      | zero ↦ 65536
-      | suc i ↦ elim (hexDigit b) [
-        | zero ↦ 65536
-        | suc j ↦ elim (hexDigit c) [
-          | zero ↦ 65536
-          | suc k ↦ elim (hexDigit d) [ zero ↦ 65536 | suc l ↦ ((i * 16 + j) * 16 + k) * 16 + l ]
-        ]
-      ]
-    ]
 
 -- One digit stands at a place of the text, and behind it this byte.
 pub record OneDigit (text : List ℕ) (at next : ℕ) : Type 0 where

@@ -5,8 +5,8 @@ use mathlib.Core.List.{List, [], _∷_, _++_}
 use Prim.Native.Nat.{ℕ, zero, suc, _+_, _-_, _<_, _≤_}
 use native.Mathlib.Numerals.{add-one}
 use native.Mathlib.Omega.{arith}
-use lib.ListN.{length, getD, take, drop, set, length-append, drop-of-length-le}
-use lib.Seq.{drop-cons, take-at, sets, sets-eq, length-take-le, take-suc-set, drop-drop}
+use lib.ListN.{length, getD, take, drop, set, drop-of-length-le}
+use lib.Seq.{drop-cons, take-suc-set, drop-drop}
 use lib.Dec.{leb}
 use Rattle.pack.specs.Image.{mostSymbols, setWords}
 use Rattle.text.specs.declared.Field.{Field}
@@ -51,12 +51,6 @@ module _ {line : Line} {text w : List ℕ} {p : ℕ} (g : List ℕ → List ℕ 
   pub part-on : {w′ : List ℕ} {r : ℕ} → p ≤ length text → Placed (g w (drop p text)) text w′ r → Placed (thenRead line g) text w′ r
   unfolding thenRead
   part-on h k = placed-as _ (rw (← took-is line text w p q h)) k
-
--- ---- words behind the words so far
-pub stored : (img vs : List ℕ) (n : ℕ) → n + length vs ≤ length img → take (n + length vs) (sets img n vs) ≡ take n img ++ vs
-stored img vs n h =
-    let z : length (take n img ++ vs) ≡ n + length vs = length-append (take n img) vs ∙ ap (λ (k : ℕ). k + length vs) (length-take-le n img (omega arith)) in
-    rw (sets-eq vs img n h) (take-at (take n img ++ vs) _ _ z)
 
 -- ---- a field and the byte after it
 -- A number stands in one word of the image, a set in four.

@@ -4,19 +4,18 @@ use cells::pad;
 use cells::read_cells;
 use fields::one_digit;
 use fields::read_number;
-use fields::read_set;
 use fields::stands;
+use hexset::read_set;
+use hexset::set_words;
 use pack::image::SET_WORDS;
 use text::COMMA;
 use text::Kind;
 use text::NEWLINE;
 use text::Row;
-ghost use mathlib.Core.Path.{_≡_};
 ghost use mathlib.Core.List.{List, [], _∷_, _++_};
 ghost use Prim.Native.Nat.{ℕ, _+_, _*_, _-_, _<_, _≤_};
 ghost use lib.ListN.{length, take, drop};
 ghost use Rattle.pack.specs.Image.{groupWords, largestImage, mostSymbols, productionWords, setWords};
-ghost use Rattle.text.specs.Fields.{wordsOf};
 ghost use Rattle.text.specs.Form.{newline, rowWidth};
 ghost use Rattle.text.specs.Reader.Line.{took};
 ghost use Rattle.text.specs.Reader.{thenRead, expect, readFields, zeros, readSymbols, readRow};
@@ -41,17 +40,6 @@ pub fn expect(text: &[u8], at: usize, name: &[u8]) -> usize
         i += 1;
     }
     at + i
-}
-
-// A set as four words of the image, lowest first.
-fn set_words(img: &mut [u16], words: usize, value: u64)
-    requires { ⌜ words + setWords ≤ length (now img) ⌝ }
-    ensures { λ r. ⌜ take (words + setWords) (now (img .exit)) ≡ take words (now (img .entry)) ++ wordsOf Kind.Set value ⌝ }
-{
-    img[words] = (value % 65536) as u16;
-    img[words + 1] = (value / 65536 % 65536) as u16;
-    img[words + 2] = (value / 65536 / 65536 % 65536) as u16;
-    img[words + 3] = (value / 65536 / 65536 / 65536) as u16;
 }
 
 // So many numbers, split by commas, the last followed by `end`, which is no digit.

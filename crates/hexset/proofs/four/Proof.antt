@@ -1,10 +1,10 @@
--- `fields::four` meets its contract.
+-- `hexset::four` meets its contract.
 use borrow.Author.Needs.{needs}
 use native.Mathlib.Omega.{arith}
 use Rattle.text.proofs.Hex.{hex-most}
-use Rattle.fields.proofs.FieldLaws.{four-zeros, no-first, no-second, no-third, no-fourth, all-four}
-use Rattle.fields.proofs.four.Statement.{statement}
-use Rattle.fields.proofs.four.Tie as tie
+use Rattle.hexset.proofs.HexLaws.{four-zeros, no-first, no-second, no-third, no-fourth, all-four}
+use Rattle.hexset.proofs.four.Statement.{statement}
+use Rattle.hexset.proofs.four.Tie as tie
 
 returns : tie.Need-returns
 returns c =

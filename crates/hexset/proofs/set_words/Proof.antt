@@ -1,12 +1,12 @@
--- `rows::set_words` meets its contract.
+-- `hexset::set_words` meets its contract.
 use borrow.Author.Needs.{needs}
 use native.Mathlib.Omega.{arith}
 use lib.ListN.{length-set}
 use Rattle.text.specs.Fields.{wordsOf}
 use native.Mathlib.Numerals.{add-one, add-two, add-three}
-use Rattle.rows.proofs.RowLaws.{stored}
-use Rattle.rows.proofs.set_words.Statement.{statement}
-use Rattle.rows.proofs.set_words.Tie as tie
+use Rattle.hexset.proofs.HexLaws.{stored}
+use Rattle.hexset.proofs.set_words.Statement.{statement}
+use Rattle.hexset.proofs.set_words.Tie as tie
 
 slice-write-img-2 : tie.Need-slice-write-img-2
 slice-write-img-2 c = simp length-set (omega arith)

@@ -1,13 +1,13 @@
--- `fields::read_set` meets its contract. The loop's invariant: what is left to read, from where it stands, gives the same as the whole.
+-- `hexset::read_set` meets its contract. The loop's invariant: what is left to read, from where it stands, gives the same as the whole.
 use mathlib.Core.Path.{_≡_, sym, _∙_}
 use Prim.Native.Nat.{_+_, _-_, _%_, _^_, _<_, _≤_}
 use native.Mathlib.Omega.{arith}
 use borrow.Author.Needs.{needs}
 use lib.ListN.{length, drop, length-drop}
 use Rattle.text.specs.Fields.{hexFrom, readSet}
-use Rattle.fields.proofs.FieldLaws.{hex-short, hex-bad, hex-on, hex-end, hex-room, hex-fits}
-use Rattle.fields.proofs.read_set.Statement.{statement}
-use Rattle.fields.proofs.read_set.Tie as tie
+use Rattle.hexset.proofs.HexLaws.{hex-short, hex-bad, hex-on, hex-end, hex-room, hex-fits}
+use Rattle.hexset.proofs.read_set.Statement.{statement}
+use Rattle.hexset.proofs.read_set.Tie as tie
 
 abbrev Inv-loop : tie.InvT-loop
 Inv-loop text at value₀ used₀ value used =

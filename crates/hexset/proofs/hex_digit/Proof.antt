@@ -1,8 +1,8 @@
--- `fields::hex_digit` meets its contract.
+-- `hexset::hex_digit` meets its contract.
 use Rattle.text.proofs.Hex.{hex-low, hex-ten, hex-middle, hex-letter, hex-high}
 use borrow.Author.Needs.{needs}
-use Rattle.fields.proofs.hex_digit.Statement.{statement}
-use Rattle.fields.proofs.hex_digit.Tie as tie
+use Rattle.hexset.proofs.hex_digit.Statement.{statement}
+use Rattle.hexset.proofs.hex_digit.Tie as tie
 
 returns : tie.Need-returns
 returns c = hex-low _ (c .if1 .taken)
