@@ -7,7 +7,7 @@ use native.Mathlib.Omega.{arith}
 use lib.ListN.{length}
 use lib.Seq.{sets, sets-eq}
 use Rattle.numbers.proofs.Laws.{deliver-none, deliver-all}
-use Rattle.capi.specs.Numbers.{told, written}
+use Rattle.answers.specs.Numbers.{told, written}
 
 module _ (out numbers : List ℕ) where
   pub no-room : length out < length numbers → (0 ≡ told out numbers) × (out ≡ written out numbers)

@@ -2,9 +2,9 @@ use borrow.Author.Needs.{needs}
 use mathlib.Core.List.{[], _∷_}
 use native.Mathlib.Omega.{arith}
 use lib.ListN.{length-set}
-use Rattle.capi.proofs.Laws.{no-room, all-put}
-use Rattle.capi.proofs.put6.Statement.{statement}
-use Rattle.capi.proofs.put6.Tie as tie
+use Rattle.answers.proofs.Laws.{no-room, all-put}
+use Rattle.answers.proofs.put6.Statement.{statement}
+use Rattle.answers.proofs.put6.Tie as tie
 
 returns : tie.Need-returns
 returns c = let a = c .before .args in no-room _ (a .a ∷ a .b ∷ a .c ∷ a .d ∷ a .e ∷ a .f ∷ []) (c .if1 .taken)

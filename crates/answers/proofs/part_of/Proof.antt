@@ -1,8 +1,8 @@
 use borrow.Author.Needs.{needs}
 use borrow.Author.Tests.{lt-ltb, le-ltb}
-use Rattle.capi.specs.Numbers.{partOf}
-use Rattle.capi.proofs.part_of.Statement.{statement}
-use Rattle.capi.proofs.part_of.Tie as tie
+use Rattle.answers.specs.Numbers.{partOf}
+use Rattle.answers.proofs.part_of.Statement.{statement}
+use Rattle.answers.proofs.part_of.Tie as tie
 
 returns : tie.Need-returns
 unfolding partOf

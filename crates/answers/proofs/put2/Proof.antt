@@ -1,8 +1,8 @@
 use borrow.Author.Needs.{needs}
 use mathlib.Core.List.{[], _∷_}
-use Rattle.capi.proofs.Laws.{no-room, all-put}
-use Rattle.capi.proofs.put2.Statement.{statement}
-use Rattle.capi.proofs.put2.Tie as tie
+use Rattle.answers.proofs.Laws.{no-room, all-put}
+use Rattle.answers.proofs.put2.Statement.{statement}
+use Rattle.answers.proofs.put2.Tie as tie
 
 returns : tie.Need-returns
 returns c = let a = c .before .args in no-room _ (a .a ∷ a .b ∷ []) (c .if1 .taken)

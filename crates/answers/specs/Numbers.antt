@@ -5,14 +5,15 @@ use Prim.Native.Nat.{ℕ}
 use lib.Dec.{ltb}
 use lib.ListN.{length, getD}
 use Rattle.numbers.specs.Front.{Delivery, deliver, bufferAfter}
+use Rattle.numbers.specs.declared.Answer.{Answer}
 use Rattle.numbers.specs.declared.Verdict.{Verdict}
 use Rattle.numbers.specs.Verdicts.{verdictCode, verdictPlace}
 use Rattle.conditions.specs.declared.Checked.{Checked}
 use Rattle.scan.specs.declared.Scanned.{Scanned}
 use Rattle.records.specs.declared.Parsed.{Parsed}
 use Rattle.leaf.specs.declared.Part.{Part}
-use Rattle.parse.specs.Parse.{recordWords}
-use Rattle.parse.specs.Leaf.{leafPart}
+use Rattle.records.specs.Parse.{recordWords}
+use Rattle.leaf.specs.Leaf.{leafPart}
 
 -- How many are told.
 abbrev pub told : List ℕ → List ℕ → ℕ
@@ -31,8 +32,12 @@ abbrev pub ofScan : Scanned → List ℕ
 ofScan s = s .code ∷ s .place ∷ s .set ∷ s .length ∷ s .moves ∷ []
 
 -- Code and number.
+abbrev pub ofAnswer : Answer → List ℕ
+ofAnswer a = a .code ∷ a .number ∷ []
+
+-- Those of a delivery, whatever it wrote.
 abbrev pub ofText : Delivery → List ℕ
-ofText d = d .answer .code ∷ d .answer .number ∷ []
+ofText d = ofAnswer (d .answer)
 
 -- Code, number and the two places.
 abbrev pub ofCheck : Checked → List ℕ
