@@ -3,7 +3,6 @@ use mathlib.Core.Path.{_≡_, refl, sym, ap, _∙_}
 use mathlib.Core.Bool.{Bool, true, false}
 use mathlib.Core.List.{List}
 use Prim.Native.Nat.{ℕ, zero, suc, _+_, _-_, _^_, _<_, _≤_}
-use native.Mathlib.Numerals.{add-one}
 use native.Mathlib.Omega.{arith}
 use lib.Dec.{eqb, leb}
 use lib.ListN.{length, getD, drop, set, length-set, length-drop}
@@ -11,10 +10,10 @@ use lib.Seq.{getD-set-same, getD-set-other}
 use lib.Pow.{pow-pos}
 use lib.Bits.{or-lt}
 use borrow.Author.Tests.{eq-eqb, ne-eqb, le-leb, lt-leb, leb-true, leb-false, eqb-true, eqb-false}
-use Rattle.sets.specs.Sets.{has, member, isEmpty, several, lowest}
-use Rattle.sets.proofs.Laws.{has-above, lowest-lt, lowest-in}
+use Rattle.sets.specs.Sets.{has, member, isEmpty, lowest}
+use Rattle.sets.proofs.Laws.{has-above}
 use Rattle.numbers.specs.declared.Verdict.the-variants.{Good}
-use Rattle.pack.specs.Image.{terminals, groups, layout, allButEndAndLayout, groupSet, chosen, validSet}
+use Rattle.pack.specs.Image.{terminals, layout, allButEndAndLayout, validSet}
 use Rattle.shape.specs.Shape.{shape}
 use Rattle.pack.proofs.Valid.{valid-lt}
 use Rattle.shape.proofs.Good.{good-layout}
@@ -22,14 +21,14 @@ use Rattle.conditions.proofs.TestLaws.{and-left}
 use Rattle.scan.specs.declared.Stop.{Stop}
 use Rattle.scan.specs.Scan.{scan}
 use Rattle.conditions.specs.Conditions.{Subset}
-use Rattle.scan.specs.Token.{chosenIn, terminalOf}
+use Rattle.scan.specs.Token.{terminalOf}
 use Rattle.scan.proofs.Theory.{scan-stops}
 use Rattle.look.specs.declared.Spot.{Spot}
 use Rattle.look.specs.declared.Sought.{Sought}
 use Rattle.look.specs.declared.Looked.{Looked}
 use Rattle.look.specs.Look.{seek, scanned, past, refused, found, soughtSet, rescan, choose, piece, isLayout, lookOn, look}
-use Rattle.shape.proofs.GoodParser.{good-group}
-use Rattle.look.specs.Inner.{Known, Within, Terms, SoughtWithin, LookedWithin}
+use Rattle.token.specs.Terms.{Terms}
+use Rattle.look.specs.Inner.{Known, Within, SoughtWithin, LookedWithin}
 
 -- The row of sets, with one more of them.
 pub known-more : (img known : List ℕ) (s v : ℕ) → Known img known → v ≡ soughtSet img s → s < length known → Known img (set known s v)
@@ -75,39 +74,6 @@ module _ (img text : List ℕ) (allowance v : ℕ) (at : Spot) {stop : Stop} {re
         some = q .some;
         terms = terms-of img _ v l (q .part);
       })
-
--- The least terminal of a set.
-pub least-in : (img : List ℕ) (set : ℕ) → set < 18446744073709551616 → (set ≡ 0 → ⊥) → Terms img set → lowest set < terminals img
-least-in img set l nz t = t .each (lowest set) (lowest-in 64 set (lowest-lt 64 set l nz))
-
--- The terminal that a set stands for.
-module _ (img : List ℕ) (set g : ℕ) (i : chosenIn img set (groups img) 0 ≡ chosenIn img set (groups img - g) g) where
-  pub chosen-none : groups img ≤ g → 0 ≡ chosenIn img set (groups img) 0
-  unfolding chosenIn
-  chosen-none l = let z : groups img - g ≡ 0 = omega arith in sym (i ∙ rw z refl)
-
-  module _ (l : g < groups img) {s : ℕ} (es : s ≡ groupSet img g) where
-    pub chosen-hit : {c : ℕ} → s ≡ set → c ≡ chosen img g → c + 1 ≡ chosenIn img set (groups img) 0
-    unfolding chosenIn
-    chosen-hit {c} h ec =
-        let z : groups img - g ≡ suc (groups img - (g + 1)) = omega arith in
-        rw (add-one c) (sym (i ∙ rw z (simp (chosenIn, ← es, eq-eqb _ _ h, ← ec))))
-
-    pub chosen-in : {c : ℕ} → shape img ≡ Good → Terms img set → s ≡ set → c ≡ chosen img g → c < terminals img
-    chosen-in good terms h ec = rw ec (terms .each (chosen img g) (rw (sym es ∙ h) at (good-group img good g l)))
-
-    pub chosen-on : (s ≡ set → ⊥) → chosenIn img set (groups img) 0 ≡ chosenIn img set (groups img - (g + 1)) (g + 1)
-    unfolding chosenIn
-    chosen-on h = let z : groups img - g ≡ suc (groups img - (g + 1)) = omega arith in i ∙ rw z (simp (chosenIn, ← es, ne-eqb _ _ h))
-
-module _ (img : List ℕ) (set : ℕ) {b : Bool} (eb : b ≡ several set) where
-  pub term-one : {l : ℕ} → b ≡ false → l ≡ lowest set → l + 1 ≡ terminalOf img set
-  unfolding terminalOf
-  term-one {l} f e = rw (add-one l) (simp (terminalOf, sym eb ∙ f) (ap suc e))
-
-  pub term-group : {r : ℕ} → b ≡ true → r ≡ chosenIn img set (groups img) 0 → r ≡ terminalOf img set
-  unfolding terminalOf
-  term-group t e = simp (terminalOf, sym eb ∙ t) e
 
 module _ (img : List ℕ) (set size : ℕ) (at : Spot) {t : ℕ} (e : t ≡ terminalOf img set) where
   pub choose-none : t ≡ 0 → refused 9 size 0 at ≡ choose img set size at

@@ -3,8 +3,8 @@ use mathlib.Core.Path.{_≡_}
 use mathlib.Core.List.{List}
 use Prim.Native.Nat.{ℕ, _+_, _<_, _≤_}
 use lib.ListN.{length, getD}
-use Rattle.sets.specs.Sets.{has}
 use Rattle.pack.specs.Image.{terminals, mostParseStates}
+use Rattle.token.specs.Terms.{Terms}
 use Rattle.look.specs.declared.Spot.{Spot}
 use Rattle.look.specs.declared.Sought.{Sought}
 use Rattle.look.specs.declared.Looked.{Looked}
@@ -19,10 +19,6 @@ pub record Known (img known : List ℕ) : Type 0 where
 pub record Within (text : List ℕ) (allowance : ℕ) (at : Spot) : Type 0 where
   pub place : at .place ≤ length text
   pub moves : at .moves ≤ allowance
-
--- Every member of the set is a terminal.
-pub record Terms (img : List ℕ) (set : ℕ) : Type 0 where
-  pub each : (t : ℕ) → has set t ≡ 1 → t < terminals img
 
 -- What a scan found lies within the text and the allowance; a match is a byte or more, of terminals.
 pub record SoughtWithin (img text : List ℕ) (allowance : ℕ) (f : Sought) : Type 0 where

@@ -1,15 +1,16 @@
 // Layout is skipped and the next token is found: all that the parse knows of the scan. Inner functions: their callers have tested the shape.
 use pack::image;
+use token::least;
+use token::terminal_of;
 ghost use mathlib.Core.Path.{_≡_};
 ghost use Prim.Native.Nat.{ℕ, _^_, _<_, _≤_};
 ghost use Rattle.numbers.specs.declared.Verdict.the-variants.{Good};
 ghost use Rattle.pack.specs.Image.{terminals, states};
 ghost use Rattle.pack.specs.Laid.{Laid};
 ghost use Rattle.shape.specs.Shape.{shape};
-ghost use Rattle.sets.specs.Sets.{lowest};
 ghost use Rattle.classes.specs.Ready.{Ready};
-ghost use Rattle.scan.specs.Token.{chosenOf, terminalOf};
-ghost use Rattle.look.specs.Inner.{Known, Within, Terms, SoughtWithin, LookedWithin};
+ghost use Rattle.token.specs.Terms.{Terms};
+ghost use Rattle.look.specs.Inner.{Known, Within, SoughtWithin, LookedWithin};
 ghost use Rattle.look.specs.Look.{refused, seek, rescan, choose, soughtSet, piece, isLayout, look};
 
 // Where the parse stands in the text: the place and the moves made.
@@ -64,45 +65,6 @@ fn refused(code: u8, length: usize, terminal: usize, at: Spot) -> Looked
         terminal,
         at,
     }
-}
-
-// The least terminal of a set that is not empty.
-fn least(img: &[u16], set: u64) -> usize
-    requires { ⌜ (set ≡ 0 → ⊥) × Terms (now img) set ⌝ }
-    ensures { λ r. ⌜ (r ≡ lowest set) × (r < terminals (now (img .entry))) ⌝ }
-{
-    sets::lowest(set) as usize
-}
-
-// 1 more than the chosen terminal of the group whose set this is, or 0 where there is none.
-fn chosen_of(img: &[u16], set: u64) -> usize
-    requires { ⌜ Laid (now img) ⌝ }
-    requires { ⌜ shape (now img) ≡ Good ⌝ }
-    requires { ⌜ Terms (now img) set ⌝ }
-    ensures { λ r. ⌜ (r ≡ chosenOf (now (img .entry)) set) × (r ≤ terminals (now (img .entry))) ⌝ }
-{
-    let n = image::groups(img);
-    let mut g: usize = 0;
-    while g < n {
-        if image::group_set(img, g) == set {
-            return image::chosen(img, g) + 1;
-        }
-        g += 1;
-    }
-    0
-}
-
-// 1 more than the terminal that a set stands for, or 0 where it is no group.
-fn terminal_of(img: &[u16], set: u64) -> usize
-    requires { ⌜ Laid (now img) ⌝ }
-    requires { ⌜ shape (now img) ≡ Good ⌝ }
-    requires { ⌜ (set ≡ 0 → ⊥) × Terms (now img) set ⌝ }
-    ensures { λ r. ⌜ (r ≡ terminalOf (now (img .entry)) set) × (r ≤ terminals (now (img .entry))) ⌝ }
-{
-    if sets::several(set) {
-        return chosen_of(img, set);
-    }
-    least(img, set) + 1
 }
 
 // The terminal of a match, or code 9.

@@ -1,9 +1,9 @@
 use borrow.Author.Needs.{needs}
 use Prim.Native.Nat.{_-_}
 use lib.ListN.{set}
-use Rattle.look.proofs.Laws.{least-in}
-use Rattle.look.proofs.least.Statement.{statement}
-use Rattle.look.proofs.least.Tie as tie
+use Rattle.token.proofs.Laws.{least-in}
+use Rattle.token.proofs.least.Statement.{statement}
+use Rattle.token.proofs.least.Tie as tie
 
 returns : tie.Need-returns
 returns c =

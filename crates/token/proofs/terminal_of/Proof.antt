@@ -1,9 +1,9 @@
 use borrow.Author.Needs.{needs}
 use Prim.Native.Nat.{_-_}
 use native.Mathlib.Omega.{arith}
-use Rattle.look.proofs.Laws.{term-one, term-group}
-use Rattle.look.proofs.terminal_of.Statement.{statement}
-use Rattle.look.proofs.terminal_of.Tie as tie
+use Rattle.token.proofs.Laws.{term-one, term-group}
+use Rattle.token.proofs.terminal_of.Statement.{statement}
+use Rattle.token.proofs.terminal_of.Tie as tie
 
 returns : tie.Need-returns
 returns c =

@@ -3,12 +3,12 @@ use mathlib.Core.Path.{_≡_, refl}
 use Prim.Native.Nat.{zero, _≤_, _-_}
 use native.Mathlib.Omega.{arith}
 use lib.ListN.{set}
-use Rattle.look.proofs.Laws.{chosen-none, chosen-hit, chosen-in, chosen-on}
+use Rattle.token.proofs.Laws.{chosen-none, chosen-hit, chosen-in, chosen-on}
 use native.Mathlib.Nat.{sub-zero}
 use Rattle.pack.specs.Image.{groups}
 use Rattle.scan.specs.Token.{chosenIn}
-use Rattle.look.proofs.chosen_of.Statement.{statement}
-use Rattle.look.proofs.chosen_of.Tie as tie
+use Rattle.token.proofs.chosen_of.Statement.{statement}
+use Rattle.token.proofs.chosen_of.Tie as tie
 
 abbrev Inv-loop : tie.InvT-loop
 Inv-loop img set n g₀ g = (g ≤ n) × (chosenIn img set (groups img) 0 ≡ chosenIn img set (groups img - g) g)
