@@ -6,7 +6,7 @@ use order::Ruled;
 use order::rule;
 use pack::image;
 ghost use mathlib.Core.Path.{_≡_};
-ghost use Prim.Native.Nat.{ℕ, _+_, _<_, _≤_};
+ghost use Prim.Native.Nat.{ℕ, _+_, _-_, _<_, _≤_};
 ghost use lib.ListN.{length};
 ghost use Rattle.pack.specs.Image.{mostSymbols, terminals, productions, states, scanStates, ranges, groups};
 ghost use Rattle.pack.specs.Laid.{Laid};
@@ -174,13 +174,13 @@ fn row_rule(img: &[u16], table: Ruled, i: usize) -> Verdict
     }
 }
 
-// The first wrong word of a table, row by row.
-fn rows(img: &[u16], table: Ruled, n: usize) -> Verdict
+// The first wrong word of a table from a row on, row by row.
+fn rows(img: &[u16], table: Ruled, from: usize, n: usize) -> Verdict
     requires { ⌜ Laid (now img) ⌝ }
-    requires { ⌜ n ≤ rowsOf (now img) table ⌝ }
-    ensures { λ r. ⌜ r ≡ each (rowRule (now (img .entry)) table) n 0 ⌝ }
+    requires { ⌜ (from ≤ n) × (n ≤ rowsOf (now img) table) ⌝ }
+    ensures { λ r. ⌜ r ≡ each (rowRule (now (img .entry)) table) (n - from) from ⌝ }
 {
-    let mut i: usize = 0;
+    let mut i: usize = from;
     while i < n {
         let v = row_rule(img, table, i);
         if is_wrong(v) {
@@ -248,7 +248,7 @@ pub fn doms(img: &[u16]) -> Verdict
     if quick::doms(img) {
         return Verdict::Good;
     }
-    rows(img, Ruled::Dom, image::terminals(img))
+    rows(img, Ruled::Dom, 0, image::terminals(img))
 }
 
 pub fn scans(img: &[u16]) -> Verdict
@@ -258,17 +258,46 @@ pub fn scans(img: &[u16]) -> Verdict
     if quick::scans(img) {
         return Verdict::Good;
     }
-    rows(img, Ruled::Scan, image::scan_states(img))
+    rows(img, Ruled::Scan, 0, image::scan_states(img))
+}
+
+// So many rows of actions, or none where they may not be right.
+fn passed(img: &[u16], from: usize, half: usize) -> usize
+    requires { ⌜ Laid (now img) ⌝ }
+    requires { ⌜ from + half ≤ states (now img) ⌝ }
+    ensures { λ r. ⌜ (r ≤ half) × (each (rowRule (now (img .entry)) Act) r from ≡ Good) ⌝ }
+{
+    if quick::acts(img, from, half) {
+        return half;
+    }
+    0
+}
+
+// A row of actions before which all are right. What may hold the first wrong one is halved, and the first half passed over where it is right: all
+// these passes together look at the table once more.
+fn first_row(img: &[u16]) -> usize
+    requires { ⌜ Laid (now img) ⌝ }
+    ensures { λ r. ⌜ (r ≤ states (now (img .entry))) × (each (rowRule (now (img .entry)) Act) (states (now (img .entry))) 0 ≡ each (rowRule (now (img .entry)) Act) (states (now (img .entry)) - r) r) ⌝ }
+{
+    let mut from: usize = 0;
+    let mut many = image::states(img);
+    while 1 < many {
+        let half = many / 2;
+        from += passed(img, from, half);
+        many -= half;
+    }
+    from
 }
 
 pub fn acts(img: &[u16]) -> Verdict
     requires { ⌜ Laid (now img) ⌝ }
     ensures { λ r. ⌜ r ≡ each (rowRule (now (img .entry)) Act) (states (now (img .entry))) 0 ⌝ }
 {
-    if quick::acts(img) {
+    let n = image::states(img);
+    if quick::acts(img, 0, n) {
         return Verdict::Good;
     }
-    rows(img, Ruled::Act, image::states(img))
+    rows(img, Ruled::Act, first_row(img), n)
 }
 
 // The first of n words from a place on that is above the most it may be.

@@ -109,6 +109,13 @@ each-append test (suc a) b i =
     go Good e ih = simp (each, e) ih
     go (Wrong p) e ih = simp (each, e, andThen)
 
+-- A loop passes over tests that all hold.
+pub each-pass : (test : ℕ → Verdict) (e i k : ℕ) → i + k ≤ e → each test k i ≡ Good → each test (e - i) i ≡ each test (e - (i + k)) (i + k)
+unfolding andThen
+each-pass test e i k h g =
+    let z : e - i ≡ k + (e - (i + k)) = omega arith in
+    rw z (each-append test k (e - (i + k)) i ∙ rw g refl)
+
 pub each-shift : (test : ℕ → Verdict) (k n i : ℕ) → each (λ j. test (k + j)) n i ≡ each test n (k + i)
 unfolding each
 each-shift test k zero i = refl
@@ -333,6 +340,9 @@ module _ (img : List ℕ) {a : Verdict} (ea : a ≡ headRules img) where
     unfolding shape
     shape-3 i gb ed = ed ∙ then-good _ eb i gb ∙ then-good _ ea ia ga
 
--- A table whose number of rows was read from the image.
+-- A table whose number of rows was read from the image, walked from the start or from a row before which all is right.
+pub from-row : (test : ℕ → Verdict) (r : ℕ) {v : Verdict} {n m : ℕ} → v ≡ each test (n - r) r → n ≡ m → each test m 0 ≡ each test (m - r) r → v ≡ each test m 0
+from-row test r e f g = e ∙ rw f (sym g)
+
 pub same-count : (test : ℕ → Verdict) {v : Verdict} {n m : ℕ} → v ≡ each test n 0 → n ≡ m → v ≡ each test m 0
 same-count test e f = e ∙ rw f

@@ -3,23 +3,23 @@ use mathlib.Core.Path.{_≡_, refl, sym, ap, _∙_}
 use mathlib.Core.Bool.{Bool, true, false, _&&_}
 use mathlib.Core.List.{List}
 use Prim.Native.Nat.{ℕ, zero, suc, _+_, _*_, _-_, _/_, _%_, _<_, _≤_, _^_}
-use native.Mathlib.Nat.{zero-add, mod-lt}
+use native.Mathlib.Nat.{zero-add, add-mul, mul-le-mul-right, mod-lt}
 use native.Mathlib.Omega.{arith}
 use lib.Bits.{bitOr, or-add-and, and-le-l, and-le-r}
 use lib.Dec.{eqb, leb, ltb}
 use lib.ListN.{length, getD, take, drop, length-drop}
 use lib.Seq.{length-take-le, getD-take, getD-drop}
-use borrow.Author.Tests.{eq-eqb, ne-eqb, le-leb, lt-ltb, le-ltb, eqb-true, eqb-false, leb-true, ltb-true}
+use borrow.Author.Tests.{eq-eqb, ne-eqb, le-leb, lt-ltb, eqb-true, eqb-false, leb-true, ltb-true}
 use Rattle.sets.specs.Sets.{has, member, lacks, isEmpty}
 use Rattle.sets.proofs.Laws.{out-lacks, has-or}
 use Rattle.numbers.specs.declared.Verdict.the-variants.{Good}
 use Rattle.order.specs.declared.Ruled.the-variants.{Dom, Act, Scan}
-use Rattle.pack.specs.Image.{word, setWords, mostSymbols, setAt, terminals, productions, states, scanStates, domStart, actStart, gotoStart, scanStart, symbolAt, actAt, scanAt, rejAt, possAt, layout, dom, len, symbol, act, actionOf, acc, rej, poss}
+use Rattle.pack.specs.Image.{word, setWords, setAt, terminals, productions, states, scanStates, domStart, actStart, gotoStart, scanStart, actAt, scanAt, rejAt, possAt, layout, dom, act, actionOf, acc, rej, poss}
 use Rattle.pack.specs.Laid.{Laid}
 use Rattle.order.specs.Quick.{Above, sum, accept, greatest, strange, First, Shut, Part, Parts, Apart}
 use Rattle.order.specs.Rows.{rowRule}
-use Rattle.order.specs.Shape.{rule, andThen, each, domRule, symbolRule, actRule, cellRule, scanRule}
-use Rattle.rules.specs.Rules.{fits, domRight, symbolRight, actRight, emptyAtStart, accRight, rejRight}
+use Rattle.order.specs.Shape.{rule, andThen, each, domRule, actRule, cellRule, scanRule}
+use Rattle.rules.specs.Rules.{fits, domRight, actRight, emptyAtStart, accRight, rejRight}
 use Rattle.order.proofs.Laws.{both, each-all}
 use Rattle.order.proofs.Sums.{sum-same, sum-rows, first, first-and, tight}
 
@@ -119,105 +119,104 @@ module _ (img : List ℕ) (t code : ℕ) (shut : member (layout img) t ≡ true 
           let q : (code - 2) / 2 < productions img = omega arith in
           simp (actionOf, ea, eb, ec, actRight, out-lacks _ _ em, _&&_, lt-ltb _ _ q)
 
--- The action table is right where its layout columns are shut, column 0 has no shift, and no more codes are strange than accept there.
-module _ (img : List ℕ) (laid : Laid img) (shut : Shut img) where
-  abbrev flaw : ℕ → ℕ
-  flaw x = strange (states img * 2) (productions img * 2 + 1) x
+-- So many rows of the action table have no more cells than the whole.
+act-rows : (img : List ℕ) (s : ℕ) → s ≤ states img → s * terminals img ≤ states img * terminals img
+act-rows img s h = mul-le-mul-right (terminals img) h
 
-  abbrev code : ℕ → ℕ → ℕ
-  code s t = flaw (act img s t)
+pub rows-within : (img : List ℕ) (s : ℕ) → Laid img → s ≤ states img → actStart img + s * terminals img ≤ length img
+rows-within img s laid h = omega (arith, laid .whole, act-rows img s h)
 
-  abbrev cells : ℕ
-  cells = states img * terminals img
+-- Rows of the action table are right where the layout columns are shut there, column 0 has no shift, and no more codes are strange than accept
+-- in that column.
+module _ (img : List ℕ) (from rows : ℕ) (laid : Laid img) (within : from + rows ≤ states img) (start end : ℕ)
+    (es : start ≡ actStart img + from * terminals img) (ee : end ≡ actStart img + (from + rows) * terminals img) where
+  act-cells : from * terminals img + rows * terminals img ≤ states img * terminals img
+  act-cells = omega (arith, act-rows img (from + rows) within, add-mul from rows (terminals img))
 
-  module _ (most : (s : ℕ) → s < states img → sum (code s) (terminals img) ≤ accept (act img s 0))
-      (no-shift : (s : ℕ) → s < states img → act img s 0 % 2 ≡ 0 → act img s 0 ≡ 0) (s : ℕ) (ls : s < states img) where
-    cell-right : (t : ℕ) → t < terminals img → actRight img t (actionOf (act img s t)) ≡ true
-    unfolding accept
-    cell-right zero l =
-        code-right img 0 (act img s 0) (λ m. shut .each 0 l m s ls) (λ z. no-shift s ls) (λ e. refl)
-        (λ n. let a : accept (act img s 0) ≡ 0 = simp (accept, ne-eqb _ _ n) in
-        omega (arith, most s ls, first (code s) (terminals img) (omega arith)))
-    cell-right (suc t) l =
-        let z : code s (suc t) ≡ 0 =
-        omega (
-          arith,
-          most s ls,
-          first-and (code s) (terminals img) (suc t) (omega arith) l,
-          accept-strange (states img * 2) (productions img * 2 + 1) (act img s 0),
-        ) in
-        code-right img (suc t) (act img s (suc t)) (λ m. shut .each (suc t) l m s ls) (λ e. absurd (omega arith))
-        (λ e. absurd (usual-accept _ _ _ z e)) (λ n. z)
+  acts-long : start + rows * terminals img ≤ length img
+  acts-long = omega (arith, laid .whole, act-cells)
 
-  pub acts-good : (start end : ℕ) {shifts reductions most : ℕ} → start ≡ actStart img → end ≡ gotoStart img → shifts ≡ states img * 2
-      → reductions ≡ productions img * 2 + 1
-      → most ≡ sum (λ i. strange shifts reductions (getD (take (end - start) (drop start img)) i 0))
-      (length (take (end - start) (drop start img))) → First img most → each (rowRule img Act) (states img) 0 ≡ Good
-  unfolding rowRule actRule rule act
-  acts-good start end es ee eh er em f = each-all _ (states img) 0 (λ s ls. rw (zero-add s) (row s ls))
-    where
-      long : actStart img + cells ≤ length img
-      long = omega (arith, laid .whole)
+  pub acts-order : start ≤ end
+  acts-order = omega (arith, add-mul from rows (terminals img))
 
-      whole : sum (λ i. flaw (word img (actStart img + i))) cells ≤ sum (λ s. accept (act img s 0)) (states img)
-      whole =
-          let z : end - start ≡ cells = omega arith in
-          let a = rw (z, es, eh, er, part-length img (actStart img) cells long) at em in
-          let b = a ∙ sum-same _ (λ i. flaw (word img (actStart img + i))) cells
-          (λ i l. ap (λ (x : ℕ). flaw x) (part-at img (actStart img) cells long i l)) in
-          rw b at (f .accepts)
-
-      most-of : (s : ℕ) → s < states img → sum (code s) (terminals img) ≤ accept (act img s 0)
-      most-of =
-          tight (λ s. accept (act img s 0)) (λ s. sum (code s) (terminals img)) (states img)
-          (λ s l. omega (
-            arith,
-            accept-strange (states img * 2) (productions img * 2 + 1) (act img s 0),
-            first (code s) (terminals img) (omega arith),
-          ))
-          (rw (sum-rows (λ i. flaw (word img (actStart img + i))) (terminals img) (states img)) at whole)
-
-      go : (s : ℕ) → s < states img → (t : ℕ) → t < terminals img → actRule img s t ≡ Good
-      go s ls t lt = let r = cell-right most-of (f .no-shift) s ls t lt in simp (actRule, rule, r)
-
-      row : (s : ℕ) → s < states img → each (actRule img s) (terminals img) 0 ≡ Good
-      row s ls = each-all (actRule img s) (terminals img) 0 (λ t lt. rw (zero-add t) (go s ls t lt))
-
--- The action table is within the image, and has fewer words than a word can count.
-module _ (img : List ℕ) (start end : ℕ) (laid : Laid img) (es : start ≡ actStart img) (ee : end ≡ gotoStart img) where
-  pub acts-within : end ≤ length img
-  acts-within = omega (arith, laid .whole)
+  acts-length : length (take (end - start) (drop start img)) ≡ rows * terminals img
+  acts-length =
+      let z : end - start ≡ rows * terminals img = omega (arith, add-mul from rows (terminals img)) in
+      rw z (part-length img start (rows * terminals img) acts-long)
 
   pub acts-few : length (take (end - start) (drop start img)) < 65536
-  acts-few =
-      let z : end - start ≡ states img * terminals img = omega arith in
-      rw z (omega (arith, part-length img start (states img * terminals img) (omega (arith, laid .whole))))
+  acts-few = omega (arith, acts-length, act-cells, laid .sized .act-cells)
+
+  module _ (shut : Shut img from rows) where
+    abbrev flaw : ℕ → ℕ
+    flaw x = strange (states img * 2) (productions img * 2 + 1) x
+
+    abbrev code : ℕ → ℕ → ℕ
+    code s t = flaw (act img (from + s) t)
+
+    module _ (most : (s : ℕ) → s < rows → sum (code s) (terminals img) ≤ accept (act img (from + s) 0))
+        (no-shift : (s : ℕ) → s < rows → act img (from + s) 0 % 2 ≡ 0 → act img (from + s) 0 ≡ 0) (s : ℕ) (ls : s < rows) where
+      cell-right : (t : ℕ) → t < terminals img → actRight img t (actionOf (act img (from + s) t)) ≡ true
+      unfolding accept
+      cell-right zero l =
+          code-right img 0 (act img (from + s) 0) (λ m. shut .each 0 l m s ls) (λ z. no-shift s ls) (λ e. refl)
+          (λ n. let a : accept (act img (from + s) 0) ≡ 0 = simp (accept, ne-eqb _ _ n) in
+          omega (arith, most s ls, first (code s) (terminals img) (omega arith)))
+      cell-right (suc t) l =
+          let z : code s (suc t) ≡ 0 =
+          omega (
+            arith,
+            most s ls,
+            first-and (code s) (terminals img) (suc t) (omega arith) l,
+            accept-strange (states img * 2) (productions img * 2 + 1) (act img (from + s) 0),
+          ) in
+          code-right img (suc t) (act img (from + s) (suc t)) (λ m. shut .each (suc t) l m s ls) (λ e. absurd (omega arith))
+          (λ e. absurd (usual-accept _ _ _ z e)) (λ n. z)
+
+    pub acts-good : {shifts reductions most : ℕ} → shifts ≡ states img * 2 → reductions ≡ productions img * 2 + 1
+        → most ≡ sum (λ i. strange shifts reductions (getD (take (end - start) (drop start img)) i 0))
+        (length (take (end - start) (drop start img))) → First img from rows most → each (rowRule img Act) rows from ≡ Good
+    unfolding rowRule actRule rule act
+    acts-good eh er em f = each-all _ rows from (λ s ls. row s ls)
+      where
+        there : (s t : ℕ) → word img (start + (s * terminals img + t)) ≡ act img (from + s) t
+        there s t =
+            let z : start + (s * terminals img + t) ≡ actAt img (from + s) t = omega (arith, add-mul from s (terminals img)) in
+            rw z refl
+
+        whole : sum (λ i. flaw (word img (start + i))) (rows * terminals img) ≤ sum (λ s. accept (act img (from + s) 0)) rows
+        whole =
+            let z : end - start ≡ rows * terminals img = omega (arith, add-mul from rows (terminals img)) in
+            let a = rw (eh, er, z, part-length img start (rows * terminals img) acts-long) at em in
+            let b = a ∙ sum-same _ (λ i. flaw (word img (start + i))) (rows * terminals img)
+            (λ i l. ap (λ (x : ℕ). flaw x) (part-at img start (rows * terminals img) acts-long i l)) in
+            rw b at (f .accepts)
+
+        by-rows : sum (λ i. flaw (word img (start + i))) (rows * terminals img) ≡ sum (λ s. sum (code s) (terminals img)) rows
+        by-rows =
+            sum-rows (λ i. flaw (word img (start + i))) (terminals img) rows
+            ∙ sum-same _ _ rows (λ s l. sum-same _ _ (terminals img) (λ t m. ap (λ (x : ℕ). flaw x) (there s t)))
+
+        most-of : (s : ℕ) → s < rows → sum (code s) (terminals img) ≤ accept (act img (from + s) 0)
+        most-of =
+            tight (λ s. accept (act img (from + s) 0)) (λ s. sum (code s) (terminals img)) rows
+            (λ s l. omega (
+              arith,
+              accept-strange (states img * 2) (productions img * 2 + 1) (act img (from + s) 0),
+              first (code s) (terminals img) (omega arith),
+            ))
+            (rw by-rows at whole)
+
+        go : (s : ℕ) → s < rows → (t : ℕ) → t < terminals img → actRule img (from + s) t ≡ Good
+        go s ls t lt = let r = cell-right most-of (f .no-shift) s ls t lt in simp (actRule, rule, r)
+
+        row : (s : ℕ) → s < rows → each (actRule img (from + s)) (terminals img) 0 ≡ Good
+        row s ls = each-all (actRule img (from + s)) (terminals img) 0 (λ t lt. rw (zero-add t) (go s ls t lt))
 
 -- The code at its place.
 pub code-at : (img : List ℕ) (s t : ℕ) {at : ℕ} → at ≡ actAt img s t → word img at ≡ act img s t
 unfolding act
 code-at img s t e = rw e refl
-
--- The symbols that a production does not use are right where all of them are 0.
-module _ (img : List ℕ) (p n start end : ℕ) {top : ℕ} (en : n ≡ len img p) (es : start ≡ symbolAt img p n)
-    (ee : end ≡ symbolAt img p mostSymbols) (le : end ≤ length img) (a : Above (take (end - start) (drop start img)) top) (z : top ≡ 0)
-    (i : ℕ) (l : n ≤ i) (h : i < mostSymbols) where
-  unused-zero : symbol img p i ≡ 0
-  unfolding symbol
-  unused-zero =
-      let w : end - start ≡ mostSymbols - n = omega arith in
-      let b = rw w at a in
-      let place : start + (i - n) ≡ symbolAt img p i = omega arith in
-      let here = part-at img start (mostSymbols - n) (omega arith) (i - n) (omega arith) in
-      let none = b .each (i - n) (omega (arith, part-length img start (mostSymbols - n) (omega arith))) in
-      let s : word img (start + (i - n)) ≡ 0 = omega (arith, here, none) in
-      rw place at s
-
-  pub unused-good : symbolRule img p i ≡ Good
-  unfolding symbolRule rule
-  unused-good =
-      let r : symbolRight img p i ≡ true = simp (symbolRight, le-ltb i (len img p) (omega arith), eq-eqb (symbol img p i) 0 unused-zero) in
-      simp (symbolRule, rule, r)
 
 -- A set that is part of one that fits does too.
 or-left : (a b : ℕ) → a ≤ bitOr a b

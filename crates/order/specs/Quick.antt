@@ -6,7 +6,7 @@ use Prim.Native.Nat.{ℕ, zero, suc, _+_, _*_, _%_, _<_, _≤_}
 use lib.Dec.{eqb, leb}
 use lib.ListN.{length, getD}
 use Rattle.sets.specs.Sets.{has, member, meet}
-use Rattle.pack.specs.Image.{setWords, setAt, terminals, states, scanStates, layout, act, acc, rej}
+use Rattle.pack.specs.Image.{setWords, setAt, terminals, scanStates, layout, act, acc, rej}
 
 -- No word is above the limit.
 pub record Above (words : List ℕ) (most : ℕ) : Type 0 where
@@ -29,14 +29,14 @@ greatest shifts reductions code = elim (eqb (code % 2) 0) [ true ↦ shifts | fa
 unfoldable pub strange : ℕ → ℕ → ℕ → ℕ
 strange shifts reductions code = elim (leb code (greatest shifts reductions code)) [ true ↦ accept code | false ↦ 1 ]
 
--- Column 0 has no shift, and so many accepts or more.
-pub record First (img : List ℕ) (most : ℕ) : Type 0 where
-  pub no-shift : (s : ℕ) → s < states img → act img s 0 % 2 ≡ 0 → act img s 0 ≡ 0
-  pub accepts : most ≤ sum (λ s. accept (act img s 0)) (states img)
+-- In so many rows of the action table, from a row on: column 0 has no shift, and so many accepts or more.
+pub record First (img : List ℕ) (from rows most : ℕ) : Type 0 where
+  pub no-shift : (s : ℕ) → s < rows → act img (from + s) 0 % 2 ≡ 0 → act img (from + s) 0 ≡ 0
+  pub accepts : most ≤ sum (λ s. accept (act img (from + s) 0)) rows
 
--- A layout column has errors only.
-pub record Shut (img : List ℕ) : Type 0 where
-  pub each : (t : ℕ) → t < terminals img → member (layout img) t ≡ true → (s : ℕ) → s < states img → act img s t ≡ 0
+-- There a layout column has errors only.
+pub record Shut (img : List ℕ) (from rows : ℕ) : Type 0 where
+  pub each : (t : ℕ) → t < terminals img → member (layout img) t ≡ true → (s : ℕ) → s < rows → act img (from + s) t ≡ 0
 
 -- A set is no greater number than another, and lacks the end of the text where that does; and so are n sets, the first at a place.
 pub record Part (set all : ℕ) : Type 0 where

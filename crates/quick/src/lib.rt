@@ -9,7 +9,7 @@ ghost use lib.ListN.{length, getD};
 ghost use Rattle.sets.specs.Sets.{member};
 ghost use Rattle.numbers.specs.declared.Verdict.the-variants.{Good};
 ghost use Rattle.order.specs.declared.Ruled.the-variants.{Dom, Act, Scan};
-ghost use Rattle.pack.specs.Image.{setWords, terminals, states, scanStates, dom, act};
+ghost use Rattle.pack.specs.Image.{setWords, terminals, states, scanStates, actStart, dom, act};
 ghost use Rattle.pack.specs.Laid.{Laid};
 ghost use Rattle.order.specs.Quick.{Above, sum, accept, greatest, strange, First, Shut, Parts, Apart};
 ghost use Rattle.order.specs.Rows.{rowRule};
@@ -88,16 +88,16 @@ fn is_shift(code: u16) -> bool
     false
 }
 
-// Whether column 0 has no shift, and so many accepts.
-fn first_column(img: &[u16], most: u16) -> bool
+// Whether column 0 has no shift in some rows, and so many accepts.
+fn first_column(img: &[u16], from: usize, rows: usize, most: u16) -> bool
     requires { ⌜ Laid (now img) ⌝ }
-    ensures { λ r. ⌜ (r ≡ true → First (now (img .entry)) most) ⌝ }
+    requires { ⌜ from + rows ≤ states (now img) ⌝ }
+    ensures { λ r. ⌜ (r ≡ true → First (now (img .entry)) from rows most) ⌝ }
 {
-    let rows = image::states(img);
     let mut n: u16 = 0;
     let mut s: usize = 0;
     while s < rows {
-        let code = img[image::act_at(img, s, 0)];
+        let code = img[image::act_at(img, from + s, 0)];
         if is_shift(code) {
             return false;
         }
@@ -107,16 +107,15 @@ fn first_column(img: &[u16], most: u16) -> bool
     most <= n
 }
 
-// Whether a column has errors only.
-fn empty_column(img: &[u16], t: usize) -> bool
+// Whether a column has errors only in some rows.
+fn empty_column(img: &[u16], from: usize, rows: usize, t: usize) -> bool
     requires { ⌜ Laid (now img) ⌝ }
-    requires { ⌜ t < terminals (now img) ⌝ }
-    ensures { λ r. ⌜ (r ≡ true → (s : ℕ) → s < states (now (img .entry)) → act (now (img .entry)) s t ≡ 0) ⌝ }
+    requires { ⌜ (from + rows ≤ states (now img)) × (t < terminals (now img)) ⌝ }
+    ensures { λ r. ⌜ (r ≡ true → (s : ℕ) → s < rows → act (now (img .entry)) (from + s) t ≡ 0) ⌝ }
 {
-    let rows = image::states(img);
     let mut s: usize = 0;
     while s < rows {
-        if image::act(img, s, t) == 0 {
+        if image::act(img, from + s, t) == 0 {
             s += 1;
         } else {
             return false;
@@ -126,27 +125,28 @@ fn empty_column(img: &[u16], t: usize) -> bool
 }
 
 // Whether a column has errors only, where it is a layout column.
-fn right_column(img: &[u16], set: u64, t: usize) -> bool
+fn right_column(img: &[u16], from: usize, rows: usize, set: u64, t: usize) -> bool
     requires { ⌜ Laid (now img) ⌝ }
-    requires { ⌜ t < terminals (now img) ⌝ }
-    ensures { λ r. ⌜ (r ≡ true → member set t ≡ true → (s : ℕ) → s < states (now (img .entry)) → act (now (img .entry)) s t ≡ 0) ⌝ }
+    requires { ⌜ (from + rows ≤ states (now img)) × (t < terminals (now img)) ⌝ }
+    ensures { λ r. ⌜ (r ≡ true → member set t ≡ true → (s : ℕ) → s < rows → act (now (img .entry)) (from + s) t ≡ 0) ⌝ }
 {
     if sets::member(set, t) {
-        return empty_column(img, t);
+        return empty_column(img, from, rows, t);
     }
     true
 }
 
-// Whether each layout column has errors only.
-fn layout_columns(img: &[u16]) -> bool
+// Whether each layout column has errors only in some rows.
+fn layout_columns(img: &[u16], from: usize, rows: usize) -> bool
     requires { ⌜ Laid (now img) ⌝ }
-    ensures { λ r. ⌜ (r ≡ true → Shut (now (img .entry))) ⌝ }
+    requires { ⌜ from + rows ≤ states (now img) ⌝ }
+    ensures { λ r. ⌜ (r ≡ true → Shut (now (img .entry)) from rows) ⌝ }
 {
     let set = image::layout(img);
     let width = image::terminals(img);
     let mut t: usize = 0;
     while t < width {
-        if right_column(img, set, t) {
+        if right_column(img, from, rows, set, t) {
             t += 1;
         } else {
             return false;
@@ -155,17 +155,28 @@ fn layout_columns(img: &[u16]) -> bool
     true
 }
 
-// Whether every action code is right. All strange codes are accepts of column 0 where there are no more of the former.
-pub fn acts(img: &[u16]) -> bool
+// Where a row of actions begins, or the table ends.
+fn row_start(img: &[u16], s: usize) -> usize
     requires { ⌜ Laid (now img) ⌝ }
-    ensures { λ r. ⌜ (r ≡ true → each (rowRule (now (img .entry)) Act) (states (now (img .entry))) 0 ≡ Good) ⌝ }
+    requires { ⌜ s ≤ states (now img) ⌝ }
+    ensures { λ r. ⌜ (r ≡ actStart (now (img .entry)) + s * terminals (now (img .entry))) × (r ≤ length (now (img .entry))) ⌝ }
+{
+    image::act_start(img) + s * image::terminals(img)
+}
+
+// Whether every action code is right in some rows, the first of which is given. All strange codes are accepts of column 0 where there are no
+// more of the former.
+pub fn acts(img: &[u16], from: usize, rows: usize) -> bool
+    requires { ⌜ Laid (now img) ⌝ }
+    requires { ⌜ from + rows ≤ states (now img) ⌝ }
+    ensures { λ r. ⌜ (r ≡ true → each (rowRule (now (img .entry)) Act) rows from ≡ Good) ⌝ }
 {
     let shifts = (image::states(img) * 2) as u16;
     let reductions = (image::productions(img) * 2 + 1) as u16;
-    let start = image::act_start(img);
-    let end = image::goto_start(img);
-    if first_column(img, tally(&img[start..end], shifts, reductions)) {
-        return layout_columns(img);
+    let start = row_start(img, from);
+    let end = row_start(img, from + rows);
+    if first_column(img, from, rows, tally(&img[start..end], shifts, reductions)) {
+        return layout_columns(img, from, rows);
     }
     false
 }

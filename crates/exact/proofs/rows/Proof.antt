@@ -3,18 +3,18 @@ use mathlib.Core.Path.{_≡_, refl, sym, _∙_}
 use Prim.Native.Nat.{_≤_, _-_}
 use Rattle.order.specs.Shape.{each}
 use Rattle.order.specs.Rows.{rowRule}
-use Rattle.order.proofs.Laws.{each-start, each-end, each-hit, each-on}
+use Rattle.order.proofs.Laws.{each-end, each-hit, each-on}
 use Rattle.exact.proofs.rows.Statement.{statement}
 use Rattle.exact.proofs.rows.Tie as tie
 
 abbrev Inv-loop : tie.InvT-loop
-Inv-loop img table n i₀ i = (i ≤ n) × (each (rowRule img table) n 0 ≡ each (rowRule img table) (n - i) i)
+Inv-loop img table from n i₀ i = (i ≤ n) × (each (rowRule img table) (n - from) from ≡ each (rowRule img table) (n - i) i)
 
 abbrev μ-loop : tie.MeasureT-loop
-μ-loop img table n i₀ i = n - i
+μ-loop img table from n i₀ i = n - i
 
 loop-holds : tie.Need-loop-holds Inv-loop μ-loop
-loop-holds c = (search needs, each-start _ refl)
+loop-holds c = (search needs, refl)
 
 returns : tie.Need-returns Inv-loop μ-loop
 returns c =

@@ -1,29 +1,32 @@
 use borrow.Author.Needs.{needs}
 use mathlib.Core.Path.{_≡_}
 use mathlib.Core.Bool.{true}
-use Prim.Native.Nat.{ℕ, _<_, _≤_, _-_}
+use Prim.Native.Nat.{ℕ, _+_, _<_, _≤_, _-_}
 use native.Mathlib.Omega.{arith}
 use native.Mathlib.Nat.{not-suc-le-zero}
 use borrow.Author.Count.{below-more}
 use Rattle.sets.specs.Sets.{member}
-use Rattle.pack.specs.Image.{terminals, states, layout, act}
+use Rattle.pack.specs.Image.{terminals, layout, act}
 use Rattle.order.proofs.Sound.{not-true}
 use Rattle.quick.proofs.layout_columns.Statement.{statement}
 use Rattle.quick.proofs.layout_columns.Tie as tie
 
 abbrev Inv-loop : tie.InvT-loop
-Inv-loop img set width t₀ t =
+Inv-loop img from rows set width t₀ t =
     (t ≤ width) × (set ≡ layout img) × (width ≡ terminals img)
-    × ((j : ℕ) → j < t → member (layout img) j ≡ true → (s : ℕ) → s < states img → act img s j ≡ 0)
+    × ((j : ℕ) → j < t → member (layout img) j ≡ true → (s : ℕ) → s < rows → act img (from + s) j ≡ 0)
 
 abbrev μ-loop : tie.MeasureT-loop
-μ-loop img set width t₀ t = width - t
+μ-loop img from rows set width t₀ t = width - t
 
 loop-holds : tie.Need-loop-holds Inv-loop μ-loop
 loop-holds c = (search needs, c .before .layout .ensures, c .terminals .ensures, λ j h. absurd (not-suc-le-zero h))
 
 right-column-requires : tie.Need-right-column-requires Inv-loop μ-loop
-right-column-requires c κs = (search needs, omega (arith, c .loop-test .taken, c .before .loop .inv .2))
+right-column-requires c κs =
+    let l = c .before in
+    let p = l .before .before .before .before .pre in
+    (p .0, (p .1, omega (arith, c .loop-test .taken, l .loop .inv .2)))
 
 loop-again : tie.Need-loop-again Inv-loop μ-loop
 loop-again c =
