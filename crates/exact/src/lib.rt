@@ -11,7 +11,7 @@ ghost use lib.ListN.{length};
 ghost use Rattle.pack.specs.Image.{mostSymbols, terminals, productions, states, scanStates, ranges, groups};
 ghost use Rattle.pack.specs.Laid.{Laid};
 ghost use Rattle.numbers.specs.declared.Verdict.the-variants.{Good};
-ghost use Rattle.order.specs.declared.Ruled.the-variants.{Dom, Prod, Act, Class, Scan, Group};
+ghost use Rattle.order.specs.declared.Ruled.the-variants.{Dom, Act, Scan};
 ghost use Rattle.order.specs.Rows.{rowRule, rowsOf};
 ghost use Rattle.order.specs.Shape.{each, layoutRule, domRule, symbolRule, prodRule, actRule, cellRule, gotoRules, rangeRule, moveRules, scanRule, groupRule};
 
@@ -166,11 +166,8 @@ fn row_rule(img: &[u16], table: Ruled, i: usize) -> Verdict
 {
     match table {
         Ruled::Dom => dom_rule(img, i),
-        Ruled::Prod => prod_rule(img, i),
         Ruled::Act => act_row(img, i),
-        Ruled::Class => range_rule(img, i),
         Ruled::Scan => scan_rule(img, i),
-        Ruled::Group => group_rule(img, i),
     }
 }
 
@@ -194,7 +191,7 @@ fn rows(img: &[u16], table: Ruled, from: usize, n: usize) -> Verdict
 // The tables that are walked at once, each by a loop of its own: a short table costs no more than its rows.
 pub fn prods(img: &[u16]) -> Verdict
     requires { ⌜ Laid (now img) ⌝ }
-    ensures { λ r. ⌜ r ≡ each (rowRule (now (img .entry)) Prod) (productions (now (img .entry))) 0 ⌝ }
+    ensures { λ r. ⌜ r ≡ each (prodRule (now (img .entry))) (productions (now (img .entry))) 0 ⌝ }
 {
     let n = image::productions(img);
     let mut i: usize = 0;
@@ -210,7 +207,7 @@ pub fn prods(img: &[u16]) -> Verdict
 
 pub fn classes(img: &[u16]) -> Verdict
     requires { ⌜ Laid (now img) ⌝ }
-    ensures { λ r. ⌜ r ≡ each (rowRule (now (img .entry)) Class) (ranges (now (img .entry))) 0 ⌝ }
+    ensures { λ r. ⌜ r ≡ each (rangeRule (now (img .entry))) (ranges (now (img .entry))) 0 ⌝ }
 {
     let n = image::ranges(img);
     let mut i: usize = 0;
@@ -226,7 +223,7 @@ pub fn classes(img: &[u16]) -> Verdict
 
 pub fn groups(img: &[u16]) -> Verdict
     requires { ⌜ Laid (now img) ⌝ }
-    ensures { λ r. ⌜ r ≡ each (rowRule (now (img .entry)) Group) (groups (now (img .entry))) 0 ⌝ }
+    ensures { λ r. ⌜ r ≡ each (groupRule (now (img .entry))) (groups (now (img .entry))) 0 ⌝ }
 {
     let n = image::groups(img);
     let mut i: usize = 0;

@@ -12,8 +12,8 @@ use Rattle.numbers.specs.declared.Verdict.{Verdict}
 use Rattle.numbers.specs.declared.Verdict.the-variants.{Good, Wrong}
 use Rattle.pack.specs.Image.{word, sizeWords, terminals, productions, ranges, groups, states, nonterminals, scanStates, classes, gotoStart, moveStart, leastSize, greatestSize, needed}
 use Rattle.numbers.specs.Verdicts.{isWrong}
-use Rattle.order.specs.Shape.{rule, andThen, each, sizeRule, lengthRule, headRules, layoutRule, domRule, prodRule, actRule, cellRule, gotoRules, moveRules, rangeRule, scanRule, parserRules, scannerRules, shape}
-use Rattle.order.specs.declared.Ruled.the-variants.{Dom, Prod, Act, Class, Scan, Group}
+use Rattle.order.specs.Shape.{rule, andThen, each, sizeRule, lengthRule, headRules, layoutRule, domRule, prodRule, actRule, cellRule, gotoRules, moveRules, rangeRule, scanRule, groupRule, parserRules, scannerRules, shape}
+use Rattle.order.specs.declared.Ruled.the-variants.{Dom, Act, Scan}
 use Rattle.order.specs.Rows.{rowRule}
 use Rattle.pack.specs.Laid.{Sized, Laid}
 
@@ -274,14 +274,10 @@ module _ (img : List ℕ) {a : Verdict} (ea : a ≡ layoutRule img) where
     unfolding parserRules
     parser-2 i w = then-wrong _ dom-rows i w ∙ then-good _ ea ia ga
 
-    module _ {xb : Bool} (ib : xb ≡ isWrong b) (gb : xb ≡ false) {d : Verdict} {p : ℕ} (ed : d ≡ each (rowRule img Prod) p 0) (ep : p ≡ productions img) where
-      prod-rows : d ≡ each (prodRule img) (productions img) 0
-      unfolding rowRule
-      prod-rows = ed ∙ rw ep
-
+    module _ {xb : Bool} (ib : xb ≡ isWrong b) (gb : xb ≡ false) {d : Verdict} (ed : d ≡ each (prodRule img) (productions img) 0) where
       pub parser-3 : {x : Bool} → x ≡ isWrong d → x ≡ true → d ≡ parserRules img
       unfolding parserRules
-      parser-3 i w = then-wrong _ prod-rows i w ∙ then-good _ dom-rows ib gb ∙ then-good _ ea ia ga
+      parser-3 i w = then-wrong _ ed i w ∙ then-good _ dom-rows ib gb ∙ then-good _ ea ia ga
 
       module _ {xd : Bool} (id : xd ≡ isWrong d) (gd : xd ≡ false) {f : Verdict} (ef : f ≡ each (rowRule img Act) (states img) 0) where
         act-rows : f ≡ each (λ r. each (actRule img r) (terminals img) 0) (states img) 0
@@ -290,25 +286,21 @@ module _ (img : List ℕ) {a : Verdict} (ea : a ≡ layoutRule img) where
 
         pub parser-4 : {x : Bool} → x ≡ isWrong f → x ≡ true → f ≡ parserRules img
         unfolding parserRules
-        parser-4 i w = then-wrong _ act-rows i w ∙ then-good _ prod-rows id gd ∙ then-good _ dom-rows ib gb ∙ then-good _ ea ia ga
+        parser-4 i w = then-wrong _ act-rows i w ∙ then-good _ ed id gd ∙ then-good _ dom-rows ib gb ∙ then-good _ ea ia ga
 
         pub parser-5 : {h : Verdict} {x : Bool} → x ≡ isWrong f → x ≡ false → h ≡ gotoRules img → h ≡ parserRules img
         unfolding parserRules
-        parser-5 i gf eh = eh ∙ then-good _ act-rows i gf ∙ then-good _ prod-rows id gd ∙ then-good _ dom-rows ib gb ∙ then-good _ ea ia ga
+        parser-5 i gf eh = eh ∙ then-good _ act-rows i gf ∙ then-good _ ed id gd ∙ then-good _ dom-rows ib gb ∙ then-good _ ea ia ga
 
-module _ (img : List ℕ) {a : Verdict} {r : ℕ} (ea : a ≡ each (rowRule img Class) r 0) (er : r ≡ ranges img) where
-  class-rows : a ≡ each (rangeRule img) (ranges img) 0
-  unfolding rowRule
-  class-rows = ea ∙ rw er
-
+module _ (img : List ℕ) {a : Verdict} (ea : a ≡ each (rangeRule img) (ranges img) 0) where
   pub scanner-1 : {x : Bool} → x ≡ isWrong a → x ≡ true → a ≡ scannerRules img
   unfolding scannerRules
-  scanner-1 i w = then-wrong _ class-rows i w
+  scanner-1 i w = then-wrong _ ea i w
 
   module _ {xa : Bool} (ia : xa ≡ isWrong a) (ga : xa ≡ false) {b : Verdict} (eb : b ≡ moveRules img) where
     pub scanner-2 : {x : Bool} → x ≡ isWrong b → x ≡ true → b ≡ scannerRules img
     unfolding scannerRules
-    scanner-2 i w = then-wrong _ eb i w ∙ then-good _ class-rows ia ga
+    scanner-2 i w = then-wrong _ eb i w ∙ then-good _ ea ia ga
 
     module _ {xb : Bool} (ib : xb ≡ isWrong b) (gb : xb ≡ false) {d : Verdict} {q : ℕ} (ed : d ≡ each (rowRule img Scan) q 0) (eq : q ≡ scanStates img) where
       scan-rows : d ≡ each (scanRule img) (scanStates img) 0
@@ -317,11 +309,11 @@ module _ (img : List ℕ) {a : Verdict} {r : ℕ} (ea : a ≡ each (rowRule img 
 
       pub scanner-3 : {x : Bool} → x ≡ isWrong d → x ≡ true → d ≡ scannerRules img
       unfolding scannerRules
-      scanner-3 i w = then-wrong _ scan-rows i w ∙ then-good _ eb ib gb ∙ then-good _ class-rows ia ga
+      scanner-3 i w = then-wrong _ scan-rows i w ∙ then-good _ eb ib gb ∙ then-good _ ea ia ga
 
-      pub scanner-4 : {h : Verdict} {g : ℕ} {x : Bool} → x ≡ isWrong d → x ≡ false → h ≡ each (rowRule img Group) g 0 → g ≡ groups img → h ≡ scannerRules img
-      unfolding scannerRules rowRule
-      scanner-4 i gd eh eg = eh ∙ rw eg (then-good _ scan-rows i gd ∙ then-good _ eb ib gb ∙ then-good _ class-rows ia ga)
+      pub scanner-4 : {h : Verdict} {x : Bool} → x ≡ isWrong d → x ≡ false → h ≡ each (groupRule img) (groups img) 0 → h ≡ scannerRules img
+      unfolding scannerRules
+      scanner-4 i gd eh = eh ∙ (then-good _ scan-rows i gd ∙ then-good _ eb ib gb ∙ then-good _ ea ia ga)
 
 module _ (img : List ℕ) {a : Verdict} (ea : a ≡ headRules img) where
   pub shape-1 : {x : Bool} → x ≡ isWrong a → x ≡ true → a ≡ shape img

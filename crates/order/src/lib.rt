@@ -1,4 +1,4 @@
-// What the tests of the shape share: one rule's verdict, and the tables whose rows have a rule each. The definition of the shape, which is
+// What the tests of the shape share: one rule's verdict, and the tables that have a quick pass over their rows. The definition of the shape, which is
 // the order of its rules, is in specs/, and what it gives in proofs/.
 use numbers::Verdict;
 ghost use mathlib.Core.Path.{_≡_};
@@ -14,12 +14,9 @@ pub fn rule(holds: bool, place: usize) -> Verdict
     Verdict::Wrong(place)
 }
 
-// The tables whose rows have a rule each.
+// The tables that are walked row by row where a quick pass says no.
 pub enum Ruled {
     Dom,
-    Prod,
     Act,
-    Class,
     Scan,
-    Group,
 }

@@ -7,25 +7,13 @@ dom-rule-requires : tie.Need-dom-rule-requires
 unfolding rowsOf
 dom-rule-requires c κs = let s = c .before .before .before in (s .pre .0, rw (c .enum-told .given .1) at (s .pre .1))
 
-prod-rule-requires : tie.Need-prod-rule-requires
-unfolding rowsOf
-prod-rule-requires c κs = let s = c .before .before .before in (s .pre .0, rw (c .enum-told2 .given .1) at (s .pre .1))
-
 act-row-requires : tie.Need-act-row-requires
 unfolding rowsOf
-act-row-requires c κs = let s = c .before .before .before in (s .pre .0, rw (c .enum-told3 .given .1) at (s .pre .1))
-
-range-rule-requires : tie.Need-range-rule-requires
-unfolding rowsOf
-range-rule-requires c κs = let s = c .before .before .before in (s .pre .0, rw (c .enum-told4 .given .1) at (s .pre .1))
+act-row-requires c κs = let s = c .before .before .before in (s .pre .0, rw (c .enum-told2 .given .1) at (s .pre .1))
 
 scan-rule-requires : tie.Need-scan-rule-requires
 unfolding rowsOf
-scan-rule-requires c κs = let s = c .before .before .before in (s .pre .0, rw (c .enum-told5 .given .1) at (s .pre .1))
-
-group-rule-requires : tie.Need-group-rule-requires
-unfolding rowsOf
-group-rule-requires c κs = let s = c .before .before .before in (s .pre .0, rw (c .enum-told6 .given .1) at (s .pre .1))
+scan-rule-requires c κs = let s = c .before .before .before in (s .pre .0, rw (c .enum-told3 .given .1) at (s .pre .1))
 
 returns : tie.Need-returns
 unfolding rowRule
@@ -33,25 +21,13 @@ returns c = rw (c .before .enum-told .given .1) (c .dom-rule .ensures)
 
 returns-2 : tie.Need-returns-2
 unfolding rowRule
-returns-2 c = rw (c .before .enum-told2 .given .1) (c .prod-rule .ensures)
+returns-2 c = rw (c .before .enum-told2 .given .1) (c .act-row .ensures)
 
 returns-3 : tie.Need-returns-3
 unfolding rowRule
-returns-3 c = rw (c .before .enum-told3 .given .1) (c .act-row .ensures)
-
-returns-4 : tie.Need-returns-4
-unfolding rowRule
-returns-4 c = rw (c .before .enum-told4 .given .1) (c .range-rule .ensures)
-
-returns-5 : tie.Need-returns-5
-unfolding rowRule
-returns-5 c = rw (c .before .enum-told5 .given .1) (c .scan-rule .ensures)
-
-returns-6 : tie.Need-returns-6
-unfolding rowRule
-returns-6 c = rw (c .before .enum-told6 .given .1) (c .group-rule .ensures)
+returns-3 c = rw (c .before .enum-told3 .given .1) (c .scan-rule .ensures)
 
 pub row-rule-spec : {M : Type 1} → statement M
 row-rule-spec =
     tie.close
-    (tie.spec (λ c. search needs) dom-rule-requires (λ c. search needs) prod-rule-requires (λ c. search needs) act-row-requires (λ c. search needs) range-rule-requires (λ c. search needs) scan-rule-requires (λ c. search needs) group-rule-requires returns returns-2 returns-3 returns-4 returns-5 returns-6)
+    (tie.spec (λ c. search needs) dom-rule-requires (λ c. search needs) act-row-requires (λ c. search needs) scan-rule-requires returns returns-2 returns-3)

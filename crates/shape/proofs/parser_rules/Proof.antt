@@ -21,7 +21,7 @@ returns-3 c =
     let b = i .before .before in
     let a = b .before in
     parser-3 _ (a .before .before .layout-rule .ensures) (a .before .is-wrong .ensures) (a .if1 .left) (b .doms .ensures) refl
-    (i .before .is-wrong2 .ensures) (i .if2 .left) (d .prods .ensures) refl (c .before .is-wrong3 .ensures) (c .if3 .taken)
+    (i .before .is-wrong2 .ensures) (i .if2 .left) (d .prods .ensures) (c .before .is-wrong3 .ensures) (c .if3 .taken)
 
 returns-4 : tie.Need-returns-4
 returns-4 c =
@@ -32,7 +32,7 @@ returns-4 c =
     let b = i .before .before in
     let a = b .before in
     parser-4 _ (a .before .before .layout-rule .ensures) (a .before .is-wrong .ensures) (a .if1 .left) (b .doms .ensures) refl
-    (i .before .is-wrong2 .ensures) (i .if2 .left) (d .prods .ensures) refl (j .before .is-wrong3 .ensures) (j .if3 .left)
+    (i .before .is-wrong2 .ensures) (i .if2 .left) (d .prods .ensures) (j .before .is-wrong3 .ensures) (j .if3 .left)
     (f .acts .ensures) (c .before .is-wrong4 .ensures) (c .if4 .taken)
 
 returns-5 : tie.Need-returns-5
@@ -45,7 +45,7 @@ returns-5 c =
     let b = i .before .before in
     let a = b .before in
     parser-5 _ (a .before .before .layout-rule .ensures) (a .before .is-wrong .ensures) (a .if1 .left) (b .doms .ensures) refl
-    (i .before .is-wrong2 .ensures) (i .if2 .left) (d .prods .ensures) refl (j .before .is-wrong3 .ensures) (j .if3 .left)
+    (i .before .is-wrong2 .ensures) (i .if2 .left) (d .prods .ensures) (j .before .is-wrong3 .ensures) (j .if3 .left)
     (f .acts .ensures) (k .before .is-wrong4 .ensures) (k .if4 .left) (c .gotos .ensures)
 
 pub parser-rules-spec : {M : Type 1} → statement M
