@@ -11,7 +11,7 @@ use records::narrow;
 use records::put;
 use records::wide;
 ghost use mathlib.Core.Path.{_≡_};
-ghost use mathlib.Core.Bool.{true, false};
+ghost use mathlib.Core.Bool.{true};
 ghost use Prim.Native.Nat.{_+_, _-_, _<_, _≤_};
 ghost use lib.ListN.{getD};
 ghost use Rattle.numbers.specs.declared.Verdict.the-variants.{Good};

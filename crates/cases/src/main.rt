@@ -2,7 +2,7 @@
 // libraries: this program moves bytes and prints numbers. A kind of case that it does not know gives an empty line.
 use libc::STDIN_FILENO;
 use libc::STDOUT_FILENO;
-ghost use Prim.Native.Nat.{_+_, _*_, _<_, _≤_};
+ghost use Prim.Native.Nat.{_+_, _*_, _<_};
 ghost use lib.ListN.{length};
 
 // A length that says: as in the case before.

@@ -3,7 +3,7 @@ use mathlib.Core.Path.{_≡_}
 use mathlib.Core.List.{List}
 use Prim.Native.Nat.{ℕ, _+_, _<_, _≤_}
 use lib.ListN.{length, getD}
-use Rattle.pack.specs.Image.{terminals, mostParseStates}
+use Rattle.pack.specs.Image.{terminals}
 use Rattle.token.specs.Terms.{Terms}
 use Rattle.look.specs.declared.Spot.{Spot}
 use Rattle.look.specs.declared.Sought.{Sought}

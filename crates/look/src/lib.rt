@@ -3,7 +3,7 @@ use pack::image;
 use token::least;
 use token::terminal_of;
 ghost use mathlib.Core.Path.{_≡_};
-ghost use Prim.Native.Nat.{ℕ, _^_, _<_, _≤_};
+ghost use Prim.Native.Nat.{ℕ, _^_, _<_};
 ghost use Rattle.numbers.specs.declared.Verdict.the-variants.{Good};
 ghost use Rattle.pack.specs.Image.{terminals, states};
 ghost use Rattle.pack.specs.Laid.{Laid};

@@ -10,7 +10,7 @@ use Rattle.numbers.specs.declared.Answer.{Answer}
 use Rattle.numbers.specs.declared.Verdict.{Verdict}
 use Rattle.numbers.specs.declared.Verdict.the-variants.{Good, Wrong}
 use Rattle.numbers.specs.Codes.{notTheForm, textTooLong, longestText}
-use Rattle.numbers.specs.Front.{Delivery, Delivers, refuse, bufferAfter}
+use Rattle.numbers.specs.Front.{Delivery, Delivers, bufferAfter}
 use Rattle.numbers.proofs.Laws.{answer, deliver-all}
 use Rattle.pack.specs.Image.{largestImage}
 use Rattle.pack.specs.Laid.{Sized}

@@ -14,7 +14,7 @@ use Rattle.sets.specs.Sets.{has, member, lacks, isEmpty}
 use Rattle.sets.proofs.Laws.{out-lacks, has-or}
 use Rattle.numbers.specs.declared.Verdict.the-variants.{Good}
 use Rattle.order.specs.declared.Ruled.the-variants.{Dom, Act, Scan}
-use Rattle.pack.specs.Image.{word, setWords, setAt, terminals, productions, states, scanStates, domStart, actStart, gotoStart, scanStart, actAt, scanAt, rejAt, possAt, layout, dom, act, actionOf, acc, rej, poss}
+use Rattle.pack.specs.Image.{word, setWords, setAt, terminals, productions, states, scanStates, domStart, actStart, scanStart, actAt, scanAt, rejAt, possAt, layout, dom, act, actionOf, acc, rej, poss}
 use Rattle.pack.specs.Laid.{Laid}
 use Rattle.order.specs.Quick.{Above, sum, accept, greatest, strange, First, Shut, Part, Parts, Apart}
 use Rattle.order.specs.Rows.{rowRule}

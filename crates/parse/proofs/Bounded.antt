@@ -1,15 +1,14 @@
 -- What every parse keeps, for callers that do not look into its run: the place lies within the text, the moves within the allowance, the
 -- records within the room, and what stands in the tree is those records. Assumes nothing.
-use mathlib.Core.Path.{_≡_, refl, sym, ap, _∙_}
+use mathlib.Core.Path.{_≡_, refl, _∙_}
 use mathlib.Core.Bool.{Bool, true, false}
-use mathlib.Core.List.{List, [], _∷_, _++_}
-use Prim.Native.Nat.{ℕ, zero, suc, _+_, _-_, _*_, _/_, _<_, _≤_, min}
+use mathlib.Core.List.{List, _++_}
+use Prim.Native.Nat.{ℕ, zero, suc, _+_, _-_, _*_, _/_, _<_, _≤_}
 use native.Mathlib.Omega.{arith}
 use lib.Dec.{eqb, leb, ltb}
 use lib.ListN.{length, drop, length-append}
 use borrow.Author.Tests.{ltb-true, ltb-false}
 use Rattle.numbers.specs.Codes.{done, mostStates, queryTooLong, wrongShape, longestText}
-use Rattle.numbers.specs.Front.{front}
 use Rattle.words.specs.declared.Action.{Action}
 use Rattle.words.specs.declared.Action.the-variants.{Error, Accept, Shift, Reduce}
 use Rattle.pack.specs.Image.{act, actionOf, goto, lhs, len}
@@ -21,7 +20,7 @@ use Rattle.look.specs.declared.Looked.{Looked}
 use Rattle.look.specs.Look.{look}
 use Rattle.look.specs.Inner.{Within}
 use Rattle.look.proofs.Bounds.{Bounds, look-in}
-use Rattle.records.specs.Parse.{recordWords, Standing, Ending, ending, Step, ends, goes, wrote, moved, top, shiftTo, reduceBy, accept, perform, step, run, start, roomOf, before, parse, treeAfter}
+use Rattle.records.specs.Parse.{recordWords, Standing, Ending, ending, Step, ends, goes, wrote, moved, top, reduceBy, accept, perform, step, run, start, roomOf, before, parse, treeAfter}
 
 module _ (text : List ℕ) (allowance : ℕ) where
   pub record Bounded (room : ℕ) (e : Ending) : Type 0 where

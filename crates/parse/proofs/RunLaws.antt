@@ -1,19 +1,18 @@
 -- Laws of a turn, of the loop over turns, and of the parse: one for each way out. Assumes nothing.
-use mathlib.Core.Path.{_≡_, refl, sym, ap, ap₂, _∙_}
+use mathlib.Core.Path.{_≡_, refl, sym, ap, _∙_}
 use mathlib.Core.Bool.{Bool, true, false}
-use mathlib.Core.List.{List, [], _∷_, _++_}
-use Prim.Native.Nat.{ℕ, zero, suc, _+_, _-_, _*_, _/_, _<_, _≤_, min}
+use mathlib.Core.List.{List}
+use Prim.Native.Nat.{ℕ, zero, suc, _+_, _-_, _*_, _/_, _<_, _≤_}
 use native.Mathlib.Omega.{arith}
 use native.Mathlib.Numerals.{sub-one}
 use native.Mathlib.Nat.{sub-zero}
-use lib.Dec.{eqb, leb, ltb}
+use lib.Dec.{leb}
 use lib.ListN.{length, getD, take, drop, take-append-drop, replicate, length-replicate}
 use lib.Seq.{length-take-le, drop-drop}
-use borrow.Author.Tests.{eq-eqb, ne-eqb, le-leb, lt-leb, lt-ltb, le-ltb}
+use borrow.Author.Tests.{eq-eqb, ne-eqb, lt-ltb, le-ltb}
 use Rattle.numbers.specs.declared.Verdict.{Verdict}
-use Rattle.numbers.specs.declared.Verdict.the-variants.{Good, Wrong}
 use Rattle.numbers.specs.Codes.{queryTooLong, wrongShape}
-use Rattle.pack.specs.Image.{terminals, act, actionOf}
+use Rattle.pack.specs.Image.{act, actionOf}
 use Rattle.pack.specs.Laid.{Laid}
 use Rattle.numbers.specs.Verdicts.{isWrong, verdictPlace}
 use Rattle.shape.specs.Shape.{shape}
@@ -24,8 +23,8 @@ use Rattle.look.specs.declared.Looked.{Looked}
 use Rattle.records.specs.declared.Position.{Position}
 use Rattle.records.specs.declared.Turned.{Turned}
 use Rattle.look.specs.Look.{look}
-use Rattle.look.specs.Inner.{Known, Within, LookedWithin}
-use Rattle.records.specs.Parse.{Standing, Ending, Step, ends, goes, ending, top, perform, step, run, start, roomOf, before, parse, treeAfter}
+use Rattle.look.specs.Inner.{Known, LookedWithin}
+use Rattle.records.specs.Parse.{Standing, Ending, Step, ends, goes, ending, perform, step, run, start, roomOf, before, parse, treeAfter}
 use Rattle.records.specs.Inner.{Stacked, Roomy, Kept, KeptTurn, Turning, Turn, stops, turns, standing, bounded, told}
 use Rattle.records.proofs.ActLaws.{bounded-ends, top-at}
 

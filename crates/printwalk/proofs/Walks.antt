@@ -4,18 +4,18 @@ use mathlib.Core.Bool.{true}
 use mathlib.Core.List.{List, [], _∷_, _++_}
 use Prim.Native.Nat.{ℕ, _+_, _*_, _-_, _<_, _≤_}
 use native.Mathlib.Omega.{arith}
-use lib.ListN.{length, getD, length-append}
+use lib.ListN.{length, getD}
 use Rattle.pack.specs.Image.{firstNonterminal}
 use Rattle.parse.specs.Parse.{recordWords}
 use Rattle.text.specs.Decimal.{decimal}
-use Rattle.print.specs.Print.{Tree, leaf, node, Trees, none, more, escaped, show, showEach, Taken}
+use Rattle.print.specs.Print.{leaf, node, Trees, none, more, escaped, show, showEach, Taken}
 use Rattle.print.proofs.Taken.{take-longer}
 use Rattle.printwalk.specs.declared.Cursor.{Cursor}
 use Rattle.measure.specs.Steps.{Sound, treeAt, treesBefore, lastOf, leafOf}
 use Rattle.printwalk.specs.Steps.{Room, Wrote, Prints}
 use Rattle.printwalk.proofs.Bytes.{wrote-none, wrote-as, wrote-two, wrote-length, room-last, room-rest, leaf-parts, node-parts}
 use Rattle.measure.proofs.Measures.{each-more, each-none}
-use Rattle.measure.proofs.Trees.{leaf-tree, leaf-back, node-enough, node-tree, node-rest, Going, going-start, going-end, going-back, left-some, child-sound, child, going-same, going-on}
+use Rattle.measure.proofs.Trees.{leaf-tree, leaf-back, node-enough, node-tree, node-rest, Going, going-start, going-end, going-back, left-some, child-sound, going-same, going-on}
 
 -- ---- a leaf and a node, part by part from the right
 module _ (t : ℕ) (bytes : List ℕ) {out : List ℕ} {to : ℕ} (room : Room (show (leaf t bytes)) out to) where

@@ -21,7 +21,7 @@ use Rattle.text.specs.Decimal.{isDigit, digitsFrom, numberIn, readNumber, decim
 use Rattle.text.specs.Fields.{hexDigit, hexFrom, readSet, readField, wordsOf, hexOf, hexWord, fieldText}
 use Rattle.text.specs.declared.Form.the-variants.{One, Two}
 use Rattle.text.specs.Form.{after, before, columnText, cellsIn, packLine, sizes, tablesOf, rowWidth}
-use Rattle.text.specs.Reader.{thenRead, expect, fieldThen, readFields, readCode, readCell, readCells, zeros, readSymbols, readRow, thenLines, asLine, readLines, readTables, limited, readHead, ended, readIn, formOf, readAll, Lines, all}
+use Rattle.text.specs.Reader.{thenRead, expect, fieldThen, readFields, readCode, readCell, readCells, zeros, readSymbols, readRow, thenLines, asLine, readLines, readTables, limited, readHead, ended, readIn, formOf, readAll, all}
 use Rattle.text.specs.Writer.{fieldsText, cellsText, rowText, linesText, tablesText, textOf}
 use Rattle.promise.specs.SmallPack.{small, small11, small12, small12too, joined, smallText, smallText2}
 use Rattle.promise.specs.Marked.{cases, same, ofParse, ofCheck, right, allRight}

@@ -1,6 +1,6 @@
 -- Manual, section 6.3: the twelve marked cases with their variants, and the run of `tax by day`, as one table.
 -- proofs/Marked.antt proves it by one computed test.
-use mathlib.Core.Bool.{Bool, true, false, _&&_}
+use mathlib.Core.Bool.{Bool, true, false}
 use mathlib.Core.List.{List, [], _∷_, _++_}
 use Prim.Native.Nat.{ℕ, _+_, _*_, _-_}
 use lib.Dec.{eqb}

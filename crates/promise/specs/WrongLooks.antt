@@ -1,5 +1,5 @@
 -- Three looks that seem right and are not, and packs that show it. proofs/WrongLooks.antt proves that none is a `RightLook` on its pack.
-use mathlib.Core.Bool.{Bool, true, false}
+use mathlib.Core.Bool.{true, false}
 use mathlib.Core.List.{List, [], _∷_}
 use Prim.Native.Nat.{ℕ, zero, suc, _-_}
 use lib.Dec.{eqb, leb}

@@ -2,23 +2,23 @@
 use mathlib.Core.Path.{_≡_, refl, sym, ap, ap₂, _∙_}
 use mathlib.Core.Bool.{Bool, true, false}
 use mathlib.Core.List.{List, [], _∷_, _++_, append-assoc}
-use Prim.Native.Nat.{ℕ, zero, suc, _+_, _-_, _*_, _/_, _<_, _≤_}
+use Prim.Native.Nat.{ℕ, zero, suc, _+_, _-_, _*_, _<_, _≤_}
 use native.Mathlib.Omega.{arith}
 use native.Mathlib.Numerals.{add-one, add-two, add-three}
 use lib.ListN.{length, getD, take, drop, set, length-set, length-append, length-drop}
 use lib.Seq.{sets-eq, set-split, length-take-le, take-at, drop-at, drop-drop, getD-drop, getD-set-same, getD-set-other}
 use native.Mathlib.Nat.{add-zero}
-use lib.Dec.{eqb, leb, ltb}
+use lib.Dec.{eqb, leb}
 use borrow.Author.Tests.{eq-eqb, ne-eqb, le-leb, lt-leb, lt-ltb, le-ltb, leb-true, leb-false, eqb-true, eqb-false}
 use Rattle.words.specs.declared.Action.{Action}
 use Rattle.words.specs.declared.Action.the-variants.{Error, Accept, Shift, Reduce}
-use Rattle.numbers.specs.Codes.{treeFull, stackFull, stuck}
+use Rattle.numbers.specs.Codes.{treeFull, stackFull}
 use Rattle.pack.specs.Image.{states, act, actionOf, goto, lhs, len}
 use Rattle.look.specs.declared.Spot.{Spot}
 use Rattle.records.specs.declared.Position.{Position}
 use Rattle.records.specs.declared.Turned.{Turned}
 use Rattle.look.specs.Look.{past}
-use Rattle.records.specs.Parse.{Standing, Ending, Step, ends, goes, ending, top, wrote, shiftTo, reduceBy, accept, perform}
+use Rattle.records.specs.Parse.{Standing, Ending, ends, goes, ending, top, shiftTo, reduceBy, accept, perform}
 use Rattle.records.specs.Inner.{Stacked, Roomy, Kept, Turn, stops, turns, standing, full, bounded, told, put4}
 
 -- Four words put into the tree.

@@ -5,7 +5,7 @@ use mathlib.Core.List.{List, _∷_, _++_}
 use Prim.Native.Nat.{ℕ, zero, suc, _+_, _-_, _*_, _<_, _≤_}
 use lib.Dec.{leb}
 use lib.ListN.{length, getD, take, drop}
-use Rattle.numbers.specs.Codes.{done, treeFull, stackFull, mostStates, mostRecords}
+use Rattle.numbers.specs.Codes.{done, treeFull, stackFull, mostStates}
 use Rattle.pack.specs.Image.{states}
 use Rattle.look.specs.Inner.{Known, Within}
 use Rattle.look.specs.Look.{look}

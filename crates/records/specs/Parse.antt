@@ -1,5 +1,5 @@
 -- Manual, sections 3.2 to 3.4: the parse. The stack is a list of parse states, the top first.
-use mathlib.Core.Bool.{Bool, true, false}
+use mathlib.Core.Bool.{true, false}
 use mathlib.Core.List.{List, [], _∷_, _++_}
 use Prim.Native.Nat.{ℕ, zero, suc, _/_, min}
 use lib.Dec.{eqb, leb, ltb}

@@ -5,9 +5,9 @@ use mathlib.Core.Path.{_≡_, refl, sym, ap, _∙_}
 use mathlib.Core.Bool.{Bool, true, false}
 use mathlib.Core.List.{List, [], _∷_}
 use Prim.Native.Nat.{ℕ, zero, suc, _+_, _-_, _<_, _≤_, _^_}
-use native.Mathlib.Nat.{zero-add, le-of-suc-le-suc}
+use native.Mathlib.Nat.{zero-add}
 use native.Mathlib.Omega.{arith}
-use lib.Dec.{eqb, leb, ltb}
+use lib.Dec.{eqb, ltb}
 use lib.ListN.{length, take}
 use lib.Bits.{bitAnd, bitOr, and-zero-l, and-le-l, or-lt}
 use borrow.Author.Tests.{eq-eqb, eqb-true, eqb-false, ltb-true, ltb-false}
@@ -19,9 +19,9 @@ use Rattle.shape.specs.Shape.{shape}
 use Rattle.shape.proofs.Good.{good-laid, good-move, good-class, good-acc, good-rej, good-disjoint, good-start}
 use Rattle.scan.specs.declared.Remembered.{Remembered}
 use Rattle.scan.specs.declared.Stop.{Stop}
-use Rattle.scan.specs.Scan.{nothing, remember, stopped, usedUp, scanFrom, scan}
-use Rattle.scan.specs.Matching.{ledFrom, Leads, Last}
-use Rattle.conditions.specs.Conditions.{Subset, matched, Outranked, K1, K2}
+use Rattle.scan.specs.Scan.{nothing, remember, scanFrom, scan}
+use Rattle.scan.specs.Matching.{ledFrom, Last}
+use Rattle.conditions.specs.Conditions.{Subset, matched, K1, K2}
 use Rattle.scan.proofs.Theory.{Way, nowhere, no-way, spent, goes, way, at-end}
 
 -- What is in neither of two sets is not in their union, and the other way round.

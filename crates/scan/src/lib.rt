@@ -1,8 +1,7 @@
 // One scan, and the scan called by itself.
 ghost use mathlib.Core.Path.{_≡_};
-ghost use Prim.Native.Nat.{ℕ, _+_, _<_, _≤_, min};
+ghost use Prim.Native.Nat.{_+_, _<_, _≤_, min};
 ghost use lib.ListN.{length};
-ghost use Rattle.numbers.specs.declared.Verdict.the-variants.{Good};
 ghost use Rattle.pack.specs.Image.{scanStates, move, classOf, allButEnd};
 ghost use Rattle.pack.specs.Laid.{Laid};
 ghost use Rattle.shape.specs.Shape.{shape};

@@ -1,7 +1,7 @@
 // Terminal sets as 64-bit numbers: bit t for terminal t. What is in both sets is `a & b`, what is in either `a | b`.
 ghost use mathlib.Core.Path.{_≡_};
 ghost use Prim.Native.Nat.{_-_};
-ghost use Rattle.sets.specs.Sets.{member, less, subset, count, several, lowest, isEmpty};
+ghost use Rattle.sets.specs.Sets.{member, less, subset, count, several, lowest};
 
 // Whether terminal t is in the set; a number of 64 or more is in none.
 pub fn member(set: u64, t: usize) -> bool

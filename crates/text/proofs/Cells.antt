@@ -15,7 +15,7 @@ use Rattle.text.specs.Form.{newline, comma, colon, before, columnText}
 use Rattle.text.specs.Reader.{Line, thenRead, expect, zeros, readCode, readCell, readCells}
 use Rattle.text.specs.Reader.Line.{wrong, took}
 use Rattle.text.specs.Writer.{cellsText}
-use Rattle.text.proofs.Decimal.{field, number-text, number-back, number-unread, number-no-digit, decimal-some}
+use Rattle.text.proofs.Decimal.{field, number-text, number-back, number-no-digit, decimal-some}
 use Rattle.text.proofs.Lines.{expect-next, expect-name, expect-cons, expect-told, not-wrong}
 
 -- ---- a code

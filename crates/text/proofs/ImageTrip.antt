@@ -9,7 +9,7 @@ use native.Mathlib.Numerals.{add-one}
 use native.Mathlib.Omega.{arith}
 use lib.ListN.{length, getD, take}
 use lib.Seq.{take-suc, drop-at}
-use borrow.Author.Tests.{eq-eqb, lt-leb}
+use borrow.Author.Tests.{lt-leb}
 use Rattle.text.specs.declared.Kind.{Kind}
 use Rattle.text.specs.declared.Kind.the-variants.{Number, Set}
 use Rattle.text.specs.declared.Row.{Row}
@@ -17,7 +17,7 @@ use Rattle.text.specs.declared.Row.the-variants.{Numbers, Cells, Sets, P
 use Rattle.text.specs.Decimal.{isDigit, decimal}
 use Rattle.text.specs.Fields.{greatestWord, readField, wordsOf, widthOf, hexWord, fieldText}
 use Rattle.text.specs.Form.{Table, newline, comma, after, columnText, rowWidth, tableWords}
-use Rattle.text.specs.Reader.{thenRead, expect, fieldThen, readFields, readCode, readCells, zeros, readSymbols, readRow, thenLines, asLine, readLines, readTables}
+use Rattle.text.specs.Reader.{thenRead, fieldThen, readFields, readCode, readCells, zeros, readSymbols, readRow, thenLines, asLine, readLines, readTables}
 use Rattle.text.specs.Reader.Line.{took}
 use Rattle.text.specs.Reader.Lines.{all}
 use Rattle.text.specs.Writer.{fieldsText, cellsText, rowText, linesText, tablesText}

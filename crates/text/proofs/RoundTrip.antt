@@ -16,7 +16,7 @@ use Rattle.rules.specs.Rules.{symbolRight}
 use Rattle.shape.specs.Shape.{each, sizeRule, symbolRule, prodRule, headRules, parserRules, shape}
 use Rattle.shape.proofs.Laws.{rule-good, and-then-good, each-good, each-all}
 use Rattle.shape.proofs.Good.{good-laid}
-use Rattle.text.specs.declared.Row.the-variants.{Numbers, Cells, Sets, Production, Group}
+use Rattle.text.specs.declared.Row.the-variants.{Numbers, Sets, Production, Group}
 use Rattle.text.specs.declared.Form.{Form}
 use Rattle.text.specs.declared.Form.the-variants.{One, Two}
 use Rattle.numbers.specs.Front.{deliver}

@@ -6,10 +6,10 @@ use mathlib.Core.List.{List, [], _∷_, _++_, append-assoc, append-nil}
 use Prim.Native.Nat.{ℕ, zero, suc, _+_, _*_, _-_, _<_, _≤_}
 use native.Mathlib.Nat.{zero-add, suc-mul, add-zero}
 use native.Mathlib.Omega.{arith}
-use lib.Dec.{eqb, leb}
+use lib.Dec.{leb}
 use lib.ListN.{length, getD, take, drop, length-append}
 use lib.Seq.{take-length, take-take, take-append-seam, getD-append-add, getD-take}
-use borrow.Author.Tests.{eqb-true, leb-true, leb-false}
+use borrow.Author.Tests.{leb-true, leb-false}
 use Rattle.text.specs.declared.Field.{Field}
 use Rattle.text.specs.declared.Form.{Form}
 use Rattle.text.specs.declared.Kind.{Kind}

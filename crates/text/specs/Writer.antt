@@ -14,7 +14,6 @@ use Rattle.text.specs.declared.Kind.the-variants.{Number, Set}
 use Rattle.text.specs.declared.Row.{Row}
 use Rattle.text.specs.declared.Row.the-variants.{Numbers, Cells, Sets, Production, Group}
 use Rattle.numbers.specs.Front.{Delivery, refuse, deliver}
-use Rattle.text.specs.Decimal.{decimal}
 use Rattle.text.specs.Fields.{fieldText, widthOf}
 use Rattle.text.specs.Form.{Table, newline, comma, after, columnText, packLine, sizes, tablesOf, rowWidth}
 

@@ -1,5 +1,4 @@
 use borrow.Author.Needs.{needs}
-use mathlib.Core.Path.{_≡_, _∙_}
 use Rattle.shape.proofs.Good.{good-class}
 use Rattle.classes.proofs.class_of.Statement.{statement}
 use Rattle.classes.proofs.class_of.Tie as tie

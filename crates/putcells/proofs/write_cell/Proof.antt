@@ -1,6 +1,5 @@
 -- `putcells::write_cell` meets its contract.
 use mathlib.Core.List.{[], _∷_, _++_}
-use borrow.Author.Needs.{needs}
 use Rattle.text.specs.Decimal.{decimal}
 use Rattle.putfields.specs.Steps.{Room}
 use Rattle.text.specs.Form.{colon, before}

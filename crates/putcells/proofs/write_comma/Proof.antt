@@ -1,5 +1,4 @@
 -- `putcells::write_comma` meets its contract.
-use borrow.Author.Needs.{needs}
 use Rattle.putfields.proofs.WriteLaws.{wrote-none, wrote-as, wrote-length, room-as}
 use Rattle.putcells.proofs.CellLaws.{comma-none, comma-some}
 use Rattle.putcells.proofs.write_comma.Statement.{statement}

@@ -1,5 +1,4 @@
 -- `putlines::write_line` meets its contract.
-use borrow.Author.Needs.{needs}
 use Rattle.putfields.proofs.WriteLaws.{wrote-two, wrote-length, room-front, room-rest}
 use Rattle.putlines.proofs.write_line.Statement.{statement}
 use Rattle.putlines.proofs.write_line.Tie as tie

@@ -1,4 +1,3 @@
-use borrow.Author.Needs.{needs}
 use borrow.Author.Tests.{eq-eqb, ne-eqb}
 use Rattle.order.specs.Quick.{greatest}
 use Rattle.quick.proofs.greatest.Statement.{statement}

@@ -1,4 +1,3 @@
-use borrow.Author.Needs.{needs}
 use native.Mathlib.Omega.{arith}
 use borrow.Author.Tests.{ltb-false}
 use Rattle.quick.proofs.is_shift.Statement.{statement}

@@ -1,5 +1,4 @@
 use borrow.Author.Needs.{needs}
-use mathlib.Core.Path.{_≡_, _∙_}
 use Rattle.shape.proofs.Good.{good-move}
 use Rattle.scan.proofs.move_on.Statement.{statement}
 use Rattle.scan.proofs.move_on.Tie as tie

@@ -1,6 +1,5 @@
 use borrow.Author.Needs.{needs}
-use mathlib.Core.Path.{_≡_, sym, ap, _∙_}
-use native.Mathlib.Omega.{arith}
+use mathlib.Core.Path.{sym, _∙_}
 use Rattle.shape.proofs.Laws.{is-good}
 use Rattle.shape.proofs.Good.{good-laid}
 use Rattle.scan.proofs.Laws.{rest-of, alone-long, alone-wrong, alone-scan}

@@ -1,6 +1,4 @@
-use mathlib.Core.Path.{refl, ap}
-use Prim.Native.Nat.{ℕ}
-use lib.Dec.{eqb}
+use mathlib.Core.Path.{refl}
 use borrow.Author.Needs.{needs}
 use Rattle.sets.specs.Sets.{has, member}
 use Rattle.sets.proofs.Laws.{has-above}

@@ -1,5 +1,4 @@
 use borrow.Author.Needs.{needs}
-use mathlib.Core.Path.{_≡_}
 use Rattle.edges.proofs.RowLaws as laws
 use Rattle.edges.proofs.rows.next_in.Statement.{statement}
 use Rattle.edges.proofs.rows.next_in.Tie as tie

@@ -1,7 +1,6 @@
 use borrow.Author.Needs.{needs}
 use Prim.Native.Nat.{_-_}
 use native.Mathlib.Omega.{arith}
-use lib.ListN.{length}
 use Rattle.parse.proofs.RunLaws.{turning-starts, turns-on, turns-less, turns-end, turns-tree}
 use Rattle.shape.proofs.Good.{good-laid}
 use Rattle.records.specs.Inner.{Turning}
