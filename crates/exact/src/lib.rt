@@ -6,14 +6,17 @@ use order::Ruled;
 use order::rule;
 use pack::image;
 ghost use mathlib.Core.Path.{_≡_};
-ghost use Prim.Native.Nat.{ℕ, _+_, _-_, _<_, _≤_};
+ghost use Prim.Native.Nat.{ℕ, _+_, _-_, _<_, _≤_, min};
 ghost use lib.ListN.{length};
-ghost use Rattle.pack.specs.Image.{mostSymbols, terminals, productions, states, scanStates, ranges, groups};
+ghost use Rattle.pack.specs.Image.{mostSymbols, setWords, terminals, productions, states, scanStates, ranges, groups};
 ghost use Rattle.pack.specs.Laid.{Laid};
 ghost use Rattle.numbers.specs.declared.Verdict.the-variants.{Good};
 ghost use Rattle.order.specs.declared.Ruled.the-variants.{Dom, Act, Scan};
 ghost use Rattle.order.specs.Rows.{rowRule, rowsOf};
 ghost use Rattle.order.specs.Shape.{each, layoutRule, domRule, symbolRule, prodRule, actRule, cellRule, gotoRules, rangeRule, moveRules, scanRule, groupRule};
+
+// The symbol from which the last set is read.
+const LAST_SET: usize = image::MOST_SYMBOLS - image::SET_WORDS;
 
 pub fn layout_rule(img: &[u16]) -> Verdict
     requires { ⌜ Laid (now img) ⌝ }
@@ -38,26 +41,38 @@ fn symbol_rule(img: &[u16], p: usize, i: usize) -> Verdict
     rule(rules::symbol_right(img, p, i), image::symbol_at(img, p, i))
 }
 
-// How many symbols of a production have to be looked at: all after them are unused and 0. They are passed over from the end, four at a time.
+// The symbol from which a set is read, so that it ends with the symbols at the latest.
+fn last_set(i: usize) -> usize
+    ensures { λ r. ⌜ r ≡ min i (mostSymbols - setWords) ⌝ }
+{
+    if i < LAST_SET {
+        return i;
+    }
+    LAST_SET
+}
+
+// How many symbols of a production have to be looked at: all after them are unused and 0. They are read as sets, four at a time and some of
+// them twice, so that there is no loop whose end the machine would have to foresee.
 fn to_look_at(img: &[u16], p: usize) -> usize
     requires { ⌜ Laid (now img) ⌝ }
     requires { ⌜ p < productions (now img) ⌝ }
     ensures { λ r. ⌜ (r ≤ mostSymbols) × ((i : ℕ) → r ≤ i → i < mostSymbols → symbolRule (now (img .entry)) p i ≡ Good) ⌝ }
 {
     let used = image::len(img, p);
-    if image::MOST_SYMBOLS < used {
+    if LAST_SET < used {
         return image::MOST_SYMBOLS;
     }
-    let at = image::prod_at(img, p);
-    let mut n: usize = image::MOST_SYMBOLS;
-    while used + image::SET_WORDS <= n {
-        if image::set_at(img, at + n - 2) == 0 {
-            n -= image::SET_WORDS;
-        } else {
-            return n;
+    let first = image::prod_at(img, p) + 2;
+    if image::set_at(img, first + used) == 0 {
+        if image::set_at(img, first + last_set(used + 4)) == 0 {
+            if image::set_at(img, first + last_set(used + 8)) == 0 {
+                if image::set_at(img, first + LAST_SET) == 0 {
+                    return used;
+                }
+            }
         }
     }
-    n
+    image::MOST_SYMBOLS
 }
 
 // The symbols of a production, used and unused.

@@ -1,12 +1,12 @@
 use borrow.Author.Needs.{needs}
 use borrow.Author.Tests.{eq-eqb, le-ltb, ltb-true, ltb-false}
 use lib.Dec.{ltb}
-use mathlib.Core.Path.{_≡_, refl, sym, _∙_}
+use mathlib.Core.Path.{_≡_, refl, sym, ap, _∙_}
 use mathlib.Core.Bool.{Bool, true, false}
 use mathlib.Core.List.{List}
-use native.Mathlib.Nat.{add-zero}
+use native.Mathlib.Nat.{add-zero, min-le-right, min-eq-left}
 use native.Mathlib.Omega.{arith}
-use Prim.Native.Nat.{ℕ, zero, suc, _+_, _-_, _*_, _<_, _≤_}
+use Prim.Native.Nat.{ℕ, zero, suc, _+_, _-_, _*_, _<_, _≤_, min}
 use Rattle.numbers.specs.declared.Verdict.the-variants.{Good}
 use Rattle.pack.specs.Image.{word, setWords, mostSymbols, setAt, prodAt, symbolAt, len, symbol}
 use Rattle.rules.specs.Rules.{symbolRight}
@@ -29,71 +29,73 @@ empty-words img at z k l = go k l
     go (suc (suc (suc zero))) l = omega (arith, sums)
     go (suc (suc (suc (suc k)))) l = absurd (omega arith)
 
--- Four unused symbols that are an empty set are right, and so are those after them.
-module _ (img : List ℕ) (p n : ℕ) {used at set : ℕ} (eu : used ≡ len img p) (ea : at ≡ prodAt img p) (l : used + setWords ≤ n)
-    (es : set ≡ setAt img (at + n - 2)) (z : set ≡ 0) (after : (i : ℕ) → n ≤ i → i < mostSymbols → symbolRule img p i ≡ Good) (i : ℕ)
-    (f : n - setWords ≤ i) (h : i < mostSymbols) where
-  unused-zero : i < n → symbol img p i ≡ 0
-  unfolding symbol
-  unused-zero b =
-      let k = i - (n - setWords) in
-      let place : at + n - 2 + k ≡ symbolAt img p i = omega arith in
-      let s = empty-words img (at + n - 2) (sym es ∙ z) k (omega arith) in
-      rw place at s
+-- Where all are to be looked at nothing is said of those behind them.
+all-looked-at : {Right : ℕ → Type 0} → (mostSymbols ≤ mostSymbols) × ((i : ℕ) → mostSymbols ≤ i → i < mostSymbols → Right i)
+all-looked-at = (omega arith, λ i l h. absurd (omega arith))
 
-  passed-over : symbolRule img p i ≡ Good
-  unfolding symbolRule rule
-  passed-over = go (ltb i n) refl
-    where
-      go : (b : Bool) → ltb i n ≡ b → symbolRule img p i ≡ Good
-      go true e =
-          let r : symbolRight img p i ≡ true = simp (symbolRight, le-ltb i (len img p) (omega arith), eq-eqb (symbol img p i) 0 (unused-zero (ltb-true i n e))) in
-          simp (symbolRule, rule, r)
-      go false e = after i (omega (arith, ltb-false i n e)) h
+module _ (img : List ℕ) (p : ℕ) {used first : ℕ} (eu : used ≡ len img p) (ef : first ≡ prodAt img p + 2) where
+  -- An unused symbol in an empty set is right.
+  in-empty : (j : ℕ) → setAt img (first + j) ≡ 0 → (i : ℕ) → used ≤ i → j ≤ i → i < j + setWords → symbolRule img p i ≡ Good
+  unfolding symbol symbolRule rule
+  in-empty j z i u l h =
+      let place : first + j + (i - j) ≡ symbolAt img p i = omega arith in
+      let s : symbol img p i ≡ 0 = rw place at (empty-words img (first + j) z (i - j) (omega arith)) in
+      let r : symbolRight img p i ≡ true = simp (symbolRight, le-ltb i (len img p) (omega arith), eq-eqb (symbol img p i) 0 s) in
+      simp (symbolRule, rule, r)
 
-abbrev Inv-loop : tie.InvT-loop
-Inv-loop img p used at n₀ n = (n ≤ mostSymbols) × ((i : ℕ) → n ≤ i → i < mostSymbols → symbolRule img p i ≡ Good)
+  -- The four sets hold every unused symbol.
+  module _ {a b : ℕ} (ea : a ≡ min (used + 4) (mostSymbols - setWords)) (eb : b ≡ min (used + 8) (mostSymbols - setWords))
+      (z0 : setAt img (first + used) ≡ 0) (z1 : setAt img (first + a) ≡ 0) (z2 : setAt img (first + b) ≡ 0)
+      (z3 : setAt img (first + (mostSymbols - setWords)) ≡ 0) where
+    unused-right : (i : ℕ) → used ≤ i → i < mostSymbols → symbolRule img p i ≡ Good
+    unused-right i u h = go (ltb i (used + 4)) refl (ltb i (mostSymbols - setWords)) refl (ltb i (used + 8)) refl
+      where
+        go : (x : Bool) → ltb i (used + 4) ≡ x → (y : Bool) → ltb i (mostSymbols - setWords) ≡ y → (w : Bool) → ltb i (used + 8) ≡ w
+            → symbolRule img p i ≡ Good
+        go true e y f w g = in-empty used z0 i u u (ltb-true i (used + 4) e)
+        go false e false f w g = in-empty (mostSymbols - setWords) z3 i u (ltb-false i (mostSymbols - setWords) f) (omega arith)
+        go false e true f true g =
+            let l : used + 4 ≤ i = ltb-false i (used + 4) e in
+            let k : i < mostSymbols - setWords = ltb-true i (mostSymbols - setWords) f in
+            let m : a ≡ used + 4 = ea ∙ min-eq-left (omega (arith, l, k)) in
+            in-empty a z1 i u (omega (arith, l, m)) (omega (arith, ltb-true i (used + 8) g, m))
+        go false e true f false g =
+            let l : used + 8 ≤ i = ltb-false i (used + 8) g in
+            let k : i < mostSymbols - setWords = ltb-true i (mostSymbols - setWords) f in
+            let m : b ≡ used + 8 = eb ∙ min-eq-left (omega (arith, l, k)) in
+            in-empty b z2 i u (omega (arith, l, m)) (omega (arith, k, m))
 
-abbrev μ-loop : tie.MeasureT-loop
-μ-loop img p used at n₀ n = n
+set-at-requires : tie.Need-set-at-requires
+set-at-requires c κs = omega (arith, c .prod-at .ensures .1, c .before .if1 .left)
 
-returns : tie.Need-returns Inv-loop μ-loop
-returns c = (omega arith, λ i l h. absurd (omega arith))
+set-at-requires-2 : tie.Need-set-at-requires-2
+set-at-requires-2 c κs = omega (arith, c .before .before .before .prod-at .ensures .1, c .last-set .ensures, min-le-right (c .before .before .before .before .before .len .result + 4) 10)
 
-loop-holds : tie.Need-loop-holds Inv-loop μ-loop
-loop-holds c = (omega arith, λ i l h. absurd (omega arith))
+set-at-requires-3 : tie.Need-set-at-requires-3
+set-at-requires-3 c κs =
+    let p = c .before .before .before .before .before .before in
+    omega (arith, p .prod-at .ensures .1, c .last-set2 .ensures, min-le-right (p .before .before .len .result + 8) 10)
 
-sub-set-at : tie.Need-sub-set-at Inv-loop μ-loop
-sub-set-at c = let t = c .loop-test .taken in omega (arith, t)
+set-at-requires-4 : tie.Need-set-at-requires-4
+set-at-requires-4 c κs = omega (arith, c .before .before .before .before .before .before .before .before .prod-at .ensures .1)
 
-set-at-requires : tie.Need-set-at-requires Inv-loop μ-loop
-set-at-requires c κs =
-    let k = c .before in
-    omega (arith, c .loop-test .taken, k .loop .inv .0, k .before .prod-at .ensures .1)
-
-sub-n : tie.Need-sub-n Inv-loop μ-loop
-sub-n c = let t = c .before .before .loop-test .taken in omega (arith, t)
-
-loop-less : tie.Need-loop-less Inv-loop μ-loop
-loop-less c = let t = c .before .before .loop-test .taken in omega (arith, t)
-
-loop-again : tie.Need-loop-again Inv-loop μ-loop
-loop-again c =
-    let s = c .before in
-    let l = s .before in
-    let k = l .before in
-    let a = k .before in (
-      omega (arith, k .loop .inv .0),
-      λ i f h. passed-over _ _ _ (a .before .before .len .ensures) (a .prod-at .ensures .0) (l .loop-test .taken) (s .set-at .ensures) (c .if2 .taken) (k .loop .inv .1) i f h,
+returns-2 : tie.Need-returns-2
+returns-2 c =
+    let s4 = c .before in
+    let s3 = s4 .before .before in
+    let l2 = s3 .before in
+    let s2 = l2 .before .before in
+    let l1 = s2 .before in
+    let s1 = l1 .before .before in
+    let q = s1 .before in
+    let n = q .before .before in (
+      omega (arith, q .before .if1 .left),
+      unused-right _ _ (n .len .ensures) (ap (λ (k : ℕ). k + 2) (q .prod-at .ensures .0)) (l1 .last-set .ensures) (l2 .last-set2 .ensures)
+          (sym (s1 .set-at .ensures) ∙ l1 .before .if2 .taken) (sym (s2 .set-at2 .ensures) ∙ l2 .before .if3 .taken)
+          (sym (s3 .set-at3 .ensures) ∙ s4 .before .if4 .taken) (sym (s4 .set-at4 .ensures) ∙ c .if5 .taken),
     )
-
-returns-2 : tie.Need-returns-2 Inv-loop μ-loop
-returns-2 c = let v = c .before .before .before .loop .inv in (v .0, v .1)
-
-returns-3 : tie.Need-returns-3 Inv-loop μ-loop
-returns-3 c = let v = c .before .loop .inv in (v .0, v .1)
 
 pub to-look-at-spec : {M : Type 1} → statement M
 to-look-at-spec =
     tie.close
-    (tie.spec Inv-loop μ-loop (λ c κs. search needs) returns (λ c κs. search needs) loop-holds (λ c. search needs) (λ c. search needs) sub-set-at set-at-requires sub-n loop-less loop-again returns-2 returns-3)
+    (tie.spec (λ c κs. search needs) (λ c. all-looked-at) (λ c κs. search needs) (λ c. search needs) (λ c. search needs) set-at-requires (λ c. search needs) (λ c κs. search needs) (λ c. search needs) set-at-requires-2 (λ c. search needs) (λ c κs. search needs) (λ c. search needs) set-at-requires-3 (λ c. search needs) set-at-requires-4 returns-2 (λ c. all-looked-at) (λ c. all-looked-at) (λ c. all-looked-at) (λ c. all-looked-at))
