@@ -64,8 +64,8 @@ fn to_look_at(img: &[u16], p: usize) -> usize
     }
     let first = image::prod_at(img, p) + 2;
     if image::set_at(img, first + used) == 0 {
-        if image::set_at(img, first + last_set(used + 4)) == 0 {
-            if image::set_at(img, first + last_set(used + 8)) == 0 {
+        if image::set_at(img, first + last_set(used + image::SET_WORDS)) == 0 {
+            if image::set_at(img, first + last_set(used + 2 * image::SET_WORDS)) == 0 {
                 if image::set_at(img, first + LAST_SET) == 0 {
                     return used;
                 }

@@ -44,37 +44,37 @@ module _ (img : List ℕ) (p : ℕ) {used first : ℕ} (eu : used ≡ len img p)
       simp (symbolRule, rule, r)
 
   -- The four sets hold every unused symbol.
-  module _ {a b : ℕ} (ea : a ≡ min (used + 4) (mostSymbols - setWords)) (eb : b ≡ min (used + 8) (mostSymbols - setWords))
+  module _ {a b : ℕ} (ea : a ≡ min (used + setWords) (mostSymbols - setWords)) (eb : b ≡ min (used + 2 * setWords) (mostSymbols - setWords))
       (z0 : setAt img (first + used) ≡ 0) (z1 : setAt img (first + a) ≡ 0) (z2 : setAt img (first + b) ≡ 0)
       (z3 : setAt img (first + (mostSymbols - setWords)) ≡ 0) where
     unused-right : (i : ℕ) → used ≤ i → i < mostSymbols → symbolRule img p i ≡ Good
-    unused-right i u h = go (ltb i (used + 4)) refl (ltb i (mostSymbols - setWords)) refl (ltb i (used + 8)) refl
+    unused-right i u h = go (ltb i (used + setWords)) refl (ltb i (mostSymbols - setWords)) refl (ltb i (used + 2 * setWords)) refl
       where
-        go : (x : Bool) → ltb i (used + 4) ≡ x → (y : Bool) → ltb i (mostSymbols - setWords) ≡ y → (w : Bool) → ltb i (used + 8) ≡ w
+        go : (x : Bool) → ltb i (used + setWords) ≡ x → (y : Bool) → ltb i (mostSymbols - setWords) ≡ y → (w : Bool) → ltb i (used + 2 * setWords) ≡ w
             → symbolRule img p i ≡ Good
-        go true e y f w g = in-empty used z0 i u u (ltb-true i (used + 4) e)
+        go true e y f w g = in-empty used z0 i u u (ltb-true i (used + setWords) e)
         go false e false f w g = in-empty (mostSymbols - setWords) z3 i u (ltb-false i (mostSymbols - setWords) f) (omega arith)
         go false e true f true g =
-            let l : used + 4 ≤ i = ltb-false i (used + 4) e in
+            let l : used + setWords ≤ i = ltb-false i (used + setWords) e in
             let k : i < mostSymbols - setWords = ltb-true i (mostSymbols - setWords) f in
-            let m : a ≡ used + 4 = ea ∙ min-eq-left (omega (arith, l, k)) in
-            in-empty a z1 i u (omega (arith, l, m)) (omega (arith, ltb-true i (used + 8) g, m))
+            let m : a ≡ used + setWords = ea ∙ min-eq-left (omega (arith, l, k)) in
+            in-empty a z1 i u (omega (arith, l, m)) (omega (arith, ltb-true i (used + 2 * setWords) g, m))
         go false e true f false g =
-            let l : used + 8 ≤ i = ltb-false i (used + 8) g in
+            let l : used + 2 * setWords ≤ i = ltb-false i (used + 2 * setWords) g in
             let k : i < mostSymbols - setWords = ltb-true i (mostSymbols - setWords) f in
-            let m : b ≡ used + 8 = eb ∙ min-eq-left (omega (arith, l, k)) in
+            let m : b ≡ used + 2 * setWords = eb ∙ min-eq-left (omega (arith, l, k)) in
             in-empty b z2 i u (omega (arith, l, m)) (omega (arith, k, m))
 
 set-at-requires : tie.Need-set-at-requires
 set-at-requires c κs = omega (arith, c .prod-at .ensures .1, c .before .if1 .left)
 
 set-at-requires-2 : tie.Need-set-at-requires-2
-set-at-requires-2 c κs = omega (arith, c .before .before .before .prod-at .ensures .1, c .last-set .ensures, min-le-right (c .before .before .before .before .before .len .result + 4) 10)
+set-at-requires-2 c κs = omega (arith, c .before .before .before .prod-at .ensures .1, c .last-set .ensures, min-le-right (c .before .before .before .before .before .len .result + setWords) (mostSymbols - setWords))
 
 set-at-requires-3 : tie.Need-set-at-requires-3
 set-at-requires-3 c κs =
     let p = c .before .before .before .before .before .before in
-    omega (arith, p .prod-at .ensures .1, c .last-set2 .ensures, min-le-right (p .before .before .len .result + 8) 10)
+    omega (arith, p .prod-at .ensures .1, c .last-set2 .ensures, min-le-right (p .before .before .len .result + 2 * setWords) (mostSymbols - setWords))
 
 set-at-requires-4 : tie.Need-set-at-requires-4
 set-at-requires-4 c κs = omega (arith, c .before .before .before .before .before .before .before .before .prod-at .ensures .1)
@@ -98,4 +98,4 @@ returns-2 c =
 pub to-look-at-spec : {M : Type 1} → statement M
 to-look-at-spec =
     tie.close
-    (tie.spec (λ c κs. search needs) (λ c. all-looked-at) (λ c κs. search needs) (λ c. search needs) (λ c. search needs) set-at-requires (λ c. search needs) (λ c κs. search needs) (λ c. search needs) set-at-requires-2 (λ c. search needs) (λ c κs. search needs) (λ c. search needs) set-at-requires-3 (λ c. search needs) set-at-requires-4 returns-2 (λ c. all-looked-at) (λ c. all-looked-at) (λ c. all-looked-at) (λ c. all-looked-at))
+    (tie.spec (λ c κs. search needs) (λ c. all-looked-at) (λ c κs. search needs) (λ c. search needs) (λ c. search needs) set-at-requires (λ c. search needs) (λ c κs. search needs) (λ c. search needs) set-at-requires-2 (λ c. search needs) (λ c. search needs) (λ c κs. search needs) (λ c. search needs) set-at-requires-3 (λ c. search needs) set-at-requires-4 returns-2 (λ c. all-looked-at) (λ c. all-looked-at) (λ c. all-looked-at) (λ c. all-looked-at))
