@@ -5,18 +5,19 @@ use mathlib.Core.List.{List}
 use Prim.Native.Nat.{ℕ, zero, suc, _+_, _*_, _-_, _/_, _%_, _<_, _≤_, _^_}
 use native.Mathlib.Nat.{zero-add, add-mul, mul-le-mul-right, mod-lt}
 use native.Mathlib.Omega.{arith}
+use lib.Arith.{digits-lt}
 use lib.Bits.{bitOr, or-add-and, and-le-l, and-le-r}
-use lib.Dec.{eqb, leb, ltb}
+use lib.Dec.{eqb, ltb}
 use lib.ListN.{length, getD, take, drop, length-drop}
 use lib.Seq.{length-take-le, getD-take, getD-drop}
-use borrow.Author.Tests.{eq-eqb, ne-eqb, le-leb, lt-ltb, eqb-true, eqb-false, leb-true, ltb-true}
+use borrow.Author.Tests.{eq-eqb, ne-eqb, le-leb, lt-ltb, eqb-true, eqb-false, ltb-true}
 use Rattle.sets.specs.Sets.{has, member, lacks, isEmpty}
 use Rattle.sets.proofs.Laws.{out-lacks, has-or}
 use Rattle.numbers.specs.declared.Verdict.the-variants.{Good}
 use Rattle.order.specs.declared.Ruled.the-variants.{Dom, Act, Scan}
 use Rattle.pack.specs.Image.{word, setWords, setAt, terminals, productions, states, scanStates, domStart, actStart, scanStart, actAt, scanAt, rejAt, possAt, layout, dom, act, actionOf, acc, rej, poss}
 use Rattle.pack.specs.Laid.{Laid}
-use Rattle.order.specs.Quick.{Above, sum, accept, greatest, strange, First, Shut, Part, Parts, Apart}
+use Rattle.order.specs.Quick.{Above, sum, accept, Limited, Codes, First, Shut, Part, Parts, Apart}
 use Rattle.order.specs.Rows.{rowRule}
 use Rattle.order.specs.Shape.{rule, andThen, each, domRule, actRule, cellRule, scanRule}
 use Rattle.rules.specs.Rules.{fits, domRight, actRight, emptyAtStart, accRight, rejRight}
@@ -24,8 +25,8 @@ use Rattle.order.proofs.Laws.{both, each-all}
 use Rattle.order.proofs.Sums.{sum-same, sum-rows, first, first-and, tight}
 
 -- A part of the image, by its words.
-part-at : (img : List ℕ) (start n : ℕ) → start + n ≤ length img → (j : ℕ) → j < n → getD (take n (drop start img)) j 0 ≡ word img (start + j)
-part-at img start n h j l = getD-take n (drop start img) j 0 l ∙ getD-drop start img j 0
+part-at : (img : List ℕ) (start n j : ℕ) → j < n → getD (take n (drop start img)) j 0 ≡ word img (start + j)
+part-at img start n j l = getD-take n (drop start img) j 0 l ∙ getD-drop start img j 0
 
 part-length : (img : List ℕ) (start n : ℕ) → start + n ≤ length img → length (take n (drop start img)) ≡ n
 part-length img start n h = length-take-le n (drop start img) (omega (arith, length-drop start img))
@@ -42,7 +43,7 @@ all-below img start n end most e h a m =
       cellRule,
       rule,
       zero-add i,
-      le-leb (word img (start + i)) most (omega (arith, part-at img start n h i l, b .each i (omega (arith, part-length img start n h)))),
+      le-leb (word img (start + i)) most (omega (arith, part-at img start n i l, b .each i (omega (arith, part-length img start n h)))),
     )))
 
 -- What is neither 0 nor 1, and what is below 2 and not 0.
@@ -60,41 +61,13 @@ is-one zero l p = absurd (p refl)
 is-one (suc zero) l p = refl
 is-one (suc (suc x)) l p = absurd (omega arith)
 
--- What a usual code is: no accept, and within its limit.
-module _ (shifts reductions code : ℕ) where
-  pub accept-strange : accept code ≤ strange shifts reductions code
-  unfolding accept strange
-  accept-strange = go (eqb code 1) refl (leb code (greatest shifts reductions code)) refl
-    where
-      go : (a : Bool) → eqb code 1 ≡ a → (b : Bool) → leb code (greatest shifts reductions code) ≡ b
-          → accept code ≤ strange shifts reductions code
-      go a e true f = simp (strange, f) (omega arith)
-      go true e false f = simp (strange, accept, e, f) (omega arith)
-      go false e false f = simp (strange, accept, e, f) (omega arith)
+-- A code within its limits is within greater ones.
+pub limited-more : {a b a′ b′ code : ℕ} → Limited a b code → a ≤ a′ → b ≤ b′ → Limited a′ b′ code
+limited-more l h k = record { even = λ e. omega (arith, l .even e); odd = λ e. omega (arith, l .odd e) }
 
-  usual-accept : strange shifts reductions code ≡ 0 → code ≡ 1 → ⊥
-  unfolding accept
-  usual-accept z e = let a : accept code ≡ 1 = simp (accept, eq-eqb code 1 e) in omega (arith, accept-strange)
-
-  usual-below : strange shifts reductions code ≡ 0 → code ≤ greatest shifts reductions code
-  unfolding strange
-  usual-below z = go (leb code (greatest shifts reductions code)) refl
-    where
-      go : (b : Bool) → leb code (greatest shifts reductions code) ≡ b → code ≤ greatest shifts reductions code
-      go true f = leb-true _ _ f
-      go false f = let w : strange shifts reductions code ≡ 1 = simp (strange, f) in absurd (omega arith)
-
-  usual-even : strange shifts reductions code ≡ 0 → code % 2 ≡ 0 → code ≤ shifts
-  unfolding greatest
-  usual-even z e = let g : greatest shifts reductions code ≡ shifts = simp (greatest, eq-eqb _ _ e) in omega (arith, usual-below z)
-
-  usual-odd : strange shifts reductions code ≡ 0 → (code % 2 ≡ 0 → ⊥) → code ≤ reductions
-  unfolding greatest
-  usual-odd z e = let g : greatest shifts reductions code ≡ reductions = simp (greatest, ne-eqb _ _ e) in omega (arith, usual-below z)
-
--- A code that is usual or an accept is right, where it stands as it may.
+-- A code within its limit is right, where it stands as it may.
 module _ (img : List ℕ) (t code : ℕ) (shut : member (layout img) t ≡ true → code ≡ 0) (no-shift : t ≡ 0 → code % 2 ≡ 0 → code ≡ 0)
-    (accepts : code ≡ 1 → t ≡ 0) (usual : (code ≡ 1 → ⊥) → strange (states img * 2) (productions img * 2 + 1) code ≡ 0) where
+    (accepts : code ≡ 1 → t ≡ 0) (limited : Limited (states img * 2) (productions img * 2 + 1) code) where
   code-right : actRight img t (actionOf code) ≡ true
   unfolding actRight actionOf
   code-right = go (eqb code 0) refl (eqb code 1) refl (member (layout img) t) refl (eqb ((code - 2) % 2) 0) refl
@@ -109,109 +82,72 @@ module _ (img : List ℕ) (t code : ℕ) (shut : member (layout img) t ≡ true 
           let p : (code - 2) % 2 ≡ 0 = eqb-true _ _ ec in
           let e : code % 2 ≡ 0 = omega arith in
           let l : 1 ≤ t = not-zero t (λ z. eqb-false code 0 ea (no-shift z e)) in
-          let w : code ≤ states img * 2 = usual-even _ _ code (usual (eqb-false code 1 eb)) e in
-          let q : (code - 2) / 2 < states img = omega arith in
+          let q : (code - 2) / 2 < states img = omega (arith, limited .even e) in
           simp (actionOf, ea, eb, ec, actRight, out-lacks _ _ em, _&&_, le-leb _ _ l, lt-ltb _ _ q)
       go false ea false eb false em false ec =
           let k = at-least-two code (eqb-false code 0 ea) (eqb-false code 1 eb) in
           let p : (code - 2) % 2 ≡ 1 = is-one ((code - 2) % 2) (mod-lt (code - 2) (omega arith)) (eqb-false ((code - 2) % 2) 0 ec) in
-          let w : code ≤ productions img * 2 + 1 = usual-odd _ _ code (usual (eqb-false code 1 eb)) (λ z. omega arith) in
-          let q : (code - 2) / 2 < productions img = omega arith in
+          let q : (code - 2) / 2 < productions img = omega (arith, limited .odd (omega arith)) in
           simp (actionOf, ea, eb, ec, actRight, out-lacks _ _ em, _&&_, lt-ltb _ _ q)
 
--- So many rows of the action table have no more cells than the whole.
-act-rows : (img : List ℕ) (s : ℕ) → s ≤ states img → s * terminals img ≤ states img * terminals img
-act-rows img s h = mul-le-mul-right (terminals img) h
-
+-- So many rows of the action table end within the image.
 pub rows-within : (img : List ℕ) (s : ℕ) → Laid img → s ≤ states img → actStart img + s * terminals img ≤ length img
-rows-within img s laid h = omega (arith, laid .whole, act-rows img s h)
+rows-within img s laid h = omega (arith, laid .whole, mul-le-mul-right (terminals img) h)
 
--- Rows of the action table are right where the layout columns are shut there, column 0 has no shift, and no more codes are strange than accept
--- in that column.
+-- Rows of the action table are right where each code is within its limit, the layout columns are shut there, column 0 has no shift, and no more
+-- codes accept than in that column.
 module _ (img : List ℕ) (from rows : ℕ) (laid : Laid img) (within : from + rows ≤ states img) (start end : ℕ)
     (es : start ≡ actStart img + from * terminals img) (ee : end ≡ actStart img + (from + rows) * terminals img) where
-  act-cells : from * terminals img + rows * terminals img ≤ states img * terminals img
-  act-cells = omega (arith, act-rows img (from + rows) within, add-mul from rows (terminals img))
+  -- The words of these rows, and 1 for a cell that accepts.
+  abbrev cells : List ℕ
+  cells = take (end - start) (drop start img)
 
-  acts-long : start + rows * terminals img ≤ length img
-  acts-long = omega (arith, laid .whole, act-cells)
+  abbrev accepts : ℕ → ℕ → ℕ
+  accepts s t = accept (act img (from + s) t)
 
-  pub acts-order : start ≤ end
-  acts-order = omega (arith, add-mul from rows (terminals img))
-
-  acts-length : length (take (end - start) (drop start img)) ≡ rows * terminals img
+  acts-length : length cells ≡ rows * terminals img
   acts-length =
       let z : end - start ≡ rows * terminals img = omega (arith, add-mul from rows (terminals img)) in
-      rw z (part-length img start (rows * terminals img) acts-long)
+      rw z (part-length img start (rows * terminals img) (omega (arith, rows-within img (from + rows) laid within)))
 
-  pub acts-few : length (take (end - start) (drop start img)) < 65536
-  acts-few = omega (arith, acts-length, act-cells, laid .sized .act-cells)
+  -- A cell is one of the words.
+  module _ {s t : ℕ} (ls : s < rows) (lt : t < terminals img) where
+    inside : s * terminals img + t < length cells
+    inside = omega (arith, acts-length, digits-lt ls lt)
 
-  module _ (shut : Shut img from rows) where
-    abbrev flaw : ℕ → ℕ
-    flaw x = strange (states img * 2) (productions img * 2 + 1) x
+    there : getD cells (s * terminals img + t) 0 ≡ act img (from + s) t
+    unfolding act
+    there =
+        let z : start + (s * terminals img + t) ≡ actAt img (from + s) t = omega (arith, add-mul from s (terminals img)) in
+        part-at img start (end - start) (s * terminals img + t) (omega (arith, inside, acts-length)) ∙ rw z refl
 
-    abbrev code : ℕ → ℕ → ℕ
-    code s t = flaw (act img (from + s) t)
+  pub acts-good : {shift reduction n : ℕ} → Codes cells shift reduction n → shift ≤ states img * 2 → reduction ≤ productions img * 2 + 1
+      → First img from rows n → Shut img from rows → each (rowRule img Act) rows from ≡ Good
+  unfolding rowRule actRule rule accept
+  acts-good {n = n} c h k f shut =
+      each-all _ rows from (λ s ls. each-all (actRule img (from + s)) (terminals img) 0 (λ t lt. rw (zero-add t) (right ls lt)))
+    where
+      by-rows : n ≡ sum (λ s. sum (accepts s) (terminals img)) rows
+      by-rows =
+          (rw acts-length at (c .accepts)) ∙ sum-rows (λ i. accept (getD cells i 0)) (terminals img) rows
+          ∙ sum-same _ _ rows (λ s ls. sum-same _ _ (terminals img) (λ t lt. ap (λ (x : ℕ). accept x) (there ls lt)))
 
-    module _ (most : (s : ℕ) → s < rows → sum (code s) (terminals img) ≤ accept (act img (from + s) 0))
-        (no-shift : (s : ℕ) → s < rows → act img (from + s) 0 % 2 ≡ 0 → act img (from + s) 0 ≡ 0) (s : ℕ) (ls : s < rows) where
-      cell-right : (t : ℕ) → t < terminals img → actRight img t (actionOf (act img (from + s) t)) ≡ true
-      unfolding accept
-      cell-right zero l =
-          code-right img 0 (act img (from + s) 0) (λ m. shut .each 0 l m s ls) (λ z. no-shift s ls) (λ e. refl)
-          (λ n. let a : accept (act img (from + s) 0) ≡ 0 = simp (accept, ne-eqb _ _ n) in
-          omega (arith, most s ls, first (code s) (terminals img) (omega arith)))
-      cell-right (suc t) l =
-          let z : code s (suc t) ≡ 0 =
-          omega (
-            arith,
-            most s ls,
-            first-and (code s) (terminals img) (suc t) (omega arith) l,
-            accept-strange (states img * 2) (productions img * 2 + 1) (act img (from + s) 0),
-          ) in
-          code-right img (suc t) (act img (from + s) (suc t)) (λ m. shut .each (suc t) l m s ls) (λ e. absurd (omega arith))
-          (λ e. absurd (usual-accept _ _ _ z e)) (λ n. z)
+      most : (s : ℕ) → s < rows → sum (accepts s) (terminals img) ≤ accepts s 0
+      most =
+          tight (λ s. accepts s 0) (λ s. sum (accepts s) (terminals img)) rows (λ s l. first (accepts s) (terminals img) (omega arith))
+          (rw by-rows at (f .accepts))
 
-    pub acts-good : {shifts reductions most : ℕ} → shifts ≡ states img * 2 → reductions ≡ productions img * 2 + 1
-        → most ≡ sum (λ i. strange shifts reductions (getD (take (end - start) (drop start img)) i 0))
-        (length (take (end - start) (drop start img))) → First img from rows most → each (rowRule img Act) rows from ≡ Good
-    unfolding rowRule actRule rule act
-    acts-good eh er em f = each-all _ rows from (λ s ls. row s ls)
-      where
-        there : (s t : ℕ) → word img (start + (s * terminals img + t)) ≡ act img (from + s) t
-        there s t =
-            let z : start + (s * terminals img + t) ≡ actAt img (from + s) t = omega (arith, add-mul from s (terminals img)) in
-            rw z refl
+      in-first : (s t : ℕ) → s < rows → t < terminals img → act img (from + s) t ≡ 1 → t ≡ 0
+      in-first s zero ls lt e = refl
+      in-first s (suc t) ls lt e =
+          let a : accepts s (suc t) ≡ 1 = simp (accept, e) in
+          absurd (omega (arith, most s ls, first-and (accepts s) (terminals img) (suc t) (omega arith) lt))
 
-        whole : sum (λ i. flaw (word img (start + i))) (rows * terminals img) ≤ sum (λ s. accept (act img (from + s) 0)) rows
-        whole =
-            let z : end - start ≡ rows * terminals img = omega (arith, add-mul from rows (terminals img)) in
-            let a = rw (eh, er, z, part-length img start (rows * terminals img) acts-long) at em in
-            let b = a ∙ sum-same _ (λ i. flaw (word img (start + i))) (rows * terminals img)
-            (λ i l. ap (λ (x : ℕ). flaw x) (part-at img start (rows * terminals img) acts-long i l)) in
-            rw b at (f .accepts)
-
-        by-rows : sum (λ i. flaw (word img (start + i))) (rows * terminals img) ≡ sum (λ s. sum (code s) (terminals img)) rows
-        by-rows =
-            sum-rows (λ i. flaw (word img (start + i))) (terminals img) rows
-            ∙ sum-same _ _ rows (λ s l. sum-same _ _ (terminals img) (λ t m. ap (λ (x : ℕ). flaw x) (there s t)))
-
-        most-of : (s : ℕ) → s < rows → sum (code s) (terminals img) ≤ accept (act img (from + s) 0)
-        most-of =
-            tight (λ s. accept (act img (from + s) 0)) (λ s. sum (code s) (terminals img)) rows
-            (λ s l. omega (
-              arith,
-              accept-strange (states img * 2) (productions img * 2 + 1) (act img (from + s) 0),
-              first (code s) (terminals img) (omega arith),
-            ))
-            (rw by-rows at whole)
-
-        go : (s : ℕ) → s < rows → (t : ℕ) → t < terminals img → actRule img (from + s) t ≡ Good
-        go s ls t lt = let r = cell-right most-of (f .no-shift) s ls t lt in simp (actRule, rule, r)
-
-        row : (s : ℕ) → s < rows → each (actRule img (from + s)) (terminals img) 0 ≡ Good
-        row s ls = each-all (actRule img (from + s)) (terminals img) 0 (λ t lt. rw (zero-add t) (go s ls t lt))
+      right : {s t : ℕ} → s < rows → t < terminals img → actRule img (from + s) t ≡ Good
+      right {s} {t} ls lt =
+          let l = limited-more (rw (there ls lt) at (c .each _ (inside ls lt))) h k in
+          let r = code-right img t _ (λ m. shut .each t lt m s ls) (λ z. rw z (f .no-shift s ls)) (in-first s t ls lt) l in
+          simp (actRule, rule, r)
 
 -- The code at its place.
 pub code-at : (img : List ℕ) (s t : ℕ) {at : ℕ} → at ≡ actAt img s t → word img at ≡ act img s t

@@ -3,7 +3,7 @@ use mathlib.Core.Path.{_≡_}
 use mathlib.Core.Bool.{true, false}
 use mathlib.Core.List.{List}
 use Prim.Native.Nat.{ℕ, zero, suc, _+_, _*_, _%_, _<_, _≤_}
-use lib.Dec.{eqb, leb}
+use lib.Dec.{eqb}
 use lib.ListN.{length, getD}
 use Rattle.sets.specs.Sets.{has, member, meet}
 use Rattle.pack.specs.Image.{setWords, setAt, terminals, scanStates, layout, act, acc, rej}
@@ -21,13 +21,15 @@ sum f (suc n) = sum f n + f n
 unfoldable pub accept : ℕ → ℕ
 accept code = elim (eqb code 1) [ true ↦ 1 | false ↦ 0 ]
 
--- The greatest code that names a state, for an even one, or a production.
-unfoldable pub greatest : ℕ → ℕ → ℕ → ℕ
-greatest shifts reductions code = elim (eqb (code % 2) 0) [ true ↦ shifts | false ↦ reductions ]
+-- An action code is at most one number where it is even, and at most another where it is odd.
+pub record Limited (shift reduction code : ℕ) : Type 0 where
+  pub even : code % 2 ≡ 0 → code ≤ shift
+  pub odd : code % 2 ≡ 1 → code ≤ reduction
 
--- 1 where a code accepts, or names no state or production.
-unfoldable pub strange : ℕ → ℕ → ℕ → ℕ
-strange shifts reductions code = elim (leb code (greatest shifts reductions code)) [ true ↦ accept code | false ↦ 1 ]
+-- That holds for each of some codes, and so many of them accept.
+pub record Codes (words : List ℕ) (shift reduction n : ℕ) : Type 0 where
+  pub each : (j : ℕ) → j < length words → Limited shift reduction (getD words j 0)
+  pub accepts : n ≡ sum (λ j. accept (getD words j 0)) (length words)
 
 -- In so many rows of the action table, from a row on: column 0 has no shift, and so many accepts or more.
 pub record First (img : List ℕ) (from rows most : ℕ) : Type 0 where

@@ -4,14 +4,14 @@
 use pack::image;
 ghost use mathlib.Core.Path.{_≡_};
 ghost use mathlib.Core.Bool.{true, false};
-ghost use Prim.Native.Nat.{ℕ, _+_, _*_, _%_, _<_, _≤_};
-ghost use lib.ListN.{length, getD};
+ghost use Prim.Native.Nat.{ℕ, _+_, _-_, _*_, _%_, _<_, _≤_};
+ghost use lib.ListN.{length};
 ghost use Rattle.sets.specs.Sets.{member};
 ghost use Rattle.numbers.specs.declared.Verdict.the-variants.{Good};
 ghost use Rattle.order.specs.declared.Ruled.the-variants.{Dom, Act, Scan};
 ghost use Rattle.pack.specs.Image.{setWords, terminals, states, scanStates, actStart, dom, act};
 ghost use Rattle.pack.specs.Laid.{Laid};
-ghost use Rattle.order.specs.Quick.{Above, sum, accept, greatest, strange, First, Shut, Parts, Apart};
+ghost use Rattle.order.specs.Quick.{Above, accept, Limited, Codes, First, Shut, Parts, Apart};
 ghost use Rattle.order.specs.Rows.{rowRule};
 ghost use Rattle.order.specs.Shape.{each};
 
@@ -44,38 +44,44 @@ fn accept(code: u16) -> u16
     0
 }
 
-// The greatest code that names a state, for an even one, or a production.
-fn greatest(code: u16, shifts: u16, reductions: u16) -> u16
-    ensures { λ r. ⌜ r ≡ greatest shifts reductions code ⌝ }
+// The code where it is even, and else 0.
+fn even(code: u16) -> u16
+    ensures { λ r. ⌜ (r ≤ code) × (Limited r (code - r) code) ⌝ }
 {
     if code % 2 == 0 {
-        return shifts;
+        return code;
     }
-    reductions
+    0
 }
 
-// 1 where a code accepts, or names no state or production.
-fn strange(code: u16, shifts: u16, reductions: u16) -> u16
-    ensures { λ r. ⌜ (r ≡ strange shifts reductions code) × (r ≤ 1) ⌝ }
-{
-    if greatest(code, shifts, reductions) < code {
-        return 1;
-    }
-    accept(code)
+// What a pass over action codes tells of them: no even one is above `shift`, no odd one above `reduction`, and `accepts` of them accept.
+struct Tally {
+    shift: u16,
+    reduction: u16,
+    accepts: u16,
 }
 
-// How many of the codes are strange.
-fn tally(words: &[u16], shifts: u16, reductions: u16) -> u16
+fn codes(words: &[u16]) -> Tally
     requires { ⌜ length (now words) < 65536 ⌝ }
-    ensures { λ r. ⌜ r ≡ sum (λ i. strange shifts reductions (getD (now (words .entry)) i 0)) (length (now (words .entry))) ⌝ }
+    ensures { λ r. ⌜ Codes (now (words .entry)) (r .shift) (r .reduction) (r .accepts) ⌝ }
 {
+    let mut shift: u16 = 0;
+    let mut reduction: u16 = 0;
     let mut n: u16 = 0;
     let mut i: usize = 0;
     while i < words.len() {
-        n += strange(words[i], shifts, reductions);
+        let code = words[i];
+        let e = even(code);
+        shift = larger(shift, e);
+        reduction = larger(reduction, code - e);
+        n += accept(code);
         i += 1;
     }
-    n
+    Tally {
+        shift: shift,
+        reduction: reduction,
+        accepts: n,
+    }
 }
 
 // Whether a code shifts.
@@ -164,8 +170,7 @@ fn row_start(img: &[u16], s: usize) -> usize
     image::act_start(img) + s * image::terminals(img)
 }
 
-// Whether every action code is right in some rows, the first of which is given. All strange codes are accepts of column 0 where there are no
-// more of the former.
+// Whether every action code is right in some rows, the first of which is given. The accepts are those of column 0 where there are no more.
 pub fn acts(img: &[u16], from: usize, rows: usize) -> bool
     requires { ⌜ Laid (now img) ⌝ }
     requires { ⌜ from + rows ≤ states (now img) ⌝ }
@@ -175,7 +180,14 @@ pub fn acts(img: &[u16], from: usize, rows: usize) -> bool
     let reductions = (image::productions(img) * 2 + 1) as u16;
     let start = row_start(img, from);
     let end = row_start(img, from + rows);
-    if first_column(img, from, rows, tally(&img[start..end], shifts, reductions)) {
+    let all = codes(&img[start..end]);
+    if shifts < all.shift {
+        return false;
+    }
+    if reductions < all.reduction {
+        return false;
+    }
+    if first_column(img, from, rows, all.accepts) {
         return layout_columns(img, from, rows);
     }
     false
