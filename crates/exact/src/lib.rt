@@ -52,7 +52,7 @@ fn last_set(i: usize) -> usize
 }
 
 // How many symbols of a production have to be looked at: all after them are unused and 0. They are read as sets, four at a time and some of
-// them twice, so that there is no loop whose end the machine would have to foresee.
+// them twice, and the four are joined, so that there is one test and no loop whose end the machine would have to foresee.
 fn to_look_at(img: &[u16], p: usize) -> usize
     requires { ⌜ Laid (now img) ⌝ }
     requires { ⌜ p < productions (now img) ⌝ }
@@ -63,14 +63,12 @@ fn to_look_at(img: &[u16], p: usize) -> usize
         return image::MOST_SYMBOLS;
     }
     let first = image::prod_at(img, p) + 2;
-    if image::set_at(img, first + used) == 0 {
-        if image::set_at(img, first + last_set(used + image::SET_WORDS)) == 0 {
-            if image::set_at(img, first + last_set(used + 2 * image::SET_WORDS)) == 0 {
-                if image::set_at(img, first + LAST_SET) == 0 {
-                    return used;
-                }
-            }
-        }
+    let front = image::set_at(img, first + used)
+        | image::set_at(img, first + last_set(used + image::SET_WORDS));
+    let back = image::set_at(img, first + last_set(used + 2 * image::SET_WORDS))
+        | image::set_at(img, first + LAST_SET);
+    if front | back == 0 {
+        return used;
     }
     image::MOST_SYMBOLS
 }

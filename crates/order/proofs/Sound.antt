@@ -6,13 +6,13 @@ use Prim.Native.Nat.{ℕ, zero, suc, _+_, _*_, _-_, _/_, _%_, _<_, _≤_, _^_}
 use native.Mathlib.Nat.{zero-add, add-mul, mul-le-mul-right, mod-lt}
 use native.Mathlib.Omega.{arith}
 use lib.Arith.{digits-lt}
-use lib.Bits.{bitOr, or-add-and, and-le-l, and-le-r}
+use lib.Bits.{bitOr}
 use lib.Dec.{eqb, ltb}
 use lib.ListN.{length, getD, take, drop, length-drop}
 use lib.Seq.{length-take-le, getD-take, getD-drop}
 use borrow.Author.Tests.{eq-eqb, ne-eqb, le-leb, lt-ltb, eqb-true, eqb-false, ltb-true}
 use Rattle.sets.specs.Sets.{has, member, lacks, isEmpty}
-use Rattle.sets.proofs.Laws.{out-lacks, has-or}
+use Rattle.sets.proofs.Laws.{out-lacks, has-or, or-left, or-right}
 use Rattle.numbers.specs.declared.Verdict.the-variants.{Good}
 use Rattle.order.specs.declared.Ruled.the-variants.{Dom, Act, Scan}
 use Rattle.pack.specs.Image.{word, setWords, setAt, terminals, productions, states, scanStates, domStart, actStart, scanStart, actAt, scanAt, rejAt, possAt, layout, dom, act, actionOf, acc, rej, poss}
@@ -155,16 +155,13 @@ unfolding act
 code-at img s t e = rw e refl
 
 -- A set that is part of one that fits does too.
-or-left : (a b : ℕ) → a ≤ bitOr a b
-or-left a b = omega (arith, or-add-and a b, and-le-r a b)
-
 pub part-more : {set all : ℕ} (more : ℕ) → Part set all → Part set (bitOr all more)
 part-more {all = all} more p =
     record { below = omega (arith, p .below, or-left all more); end = λ z. p .end (omega (arith, has-or all more 0)) }
 
 pub part-last : (all more : ℕ) → Part more (bitOr all more)
 part-last all more =
-    record { below = omega (arith, or-add-and all more, and-le-l all more); end = λ z. omega (arith, has-or all more 0) }
+    record { below = or-right all more; end = λ z. omega (arith, has-or all more 0) }
 
 part-fits : (img : List ℕ) (set all : ℕ) → Part set all → fits img all ≡ true → fits img set ≡ true
 unfolding fits lacks

@@ -7,7 +7,7 @@ use native.Mathlib.Nat.{le-of-suc-le-suc, not-suc-le-zero, mod-lt, zero-div, zer
 use native.Mathlib.Numerals.{add-one, one-add}
 use native.Mathlib.Omega.{arith}
 use lib.Pow.{shr-shr, shr-lt, pow-pos, pow-lt, pow-mono}
-use lib.Bits.{bitAnd, bitOr, and-step, or-step, and-le-l}
+use lib.Bits.{bitAnd, bitOr, and-step, or-step, and-le-l, and-le-r, or-add-and}
 use lib.Count.{ones, onesIn, ones-step, trailingZeros, under}
 use lib.Arith.{lt-of-le-ne}
 use lib.Dec.{ltb}
@@ -56,6 +56,16 @@ has-less a b zero = omega (arith, and-step a b, and-le-l (a / 2) (b / 2), has-ze
 has-less a b (suc t) =
     let e : (a - bitAnd a b) / 2 ≡ a / 2 - bitAnd (a / 2) (b / 2) = omega (arith, and-step a b, and-le-l (a / 2) (b / 2)) in
     rw (has-suc (a - bitAnd a b) t, has-suc a t, has-suc b t, e) (has-less (a / 2) (b / 2) t)
+
+-- A union is no smaller number than either set, so it is empty only where both are.
+pub or-left : (a b : ℕ) → a ≤ bitOr a b
+or-left a b = omega (arith, or-add-and a b, and-le-r a b)
+
+pub or-right : (a b : ℕ) → b ≤ bitOr a b
+or-right a b = omega (arith, or-add-and a b, and-le-l a b)
+
+pub or-empty : (a b : ℕ) → bitOr a b ≡ 0 → (a ≡ 0) × (b ≡ 0)
+or-empty a b z = (omega (arith, or-left a b), omega (arith, or-right a b))
 
 -- Two sets with the same terminals are one number; a set with none is 0.
 pub ext : (k a b : ℕ) → a < 2 ^ k → b < 2 ^ k → ((t : ℕ) → t < k → has a t ≡ has b t) → a ≡ b

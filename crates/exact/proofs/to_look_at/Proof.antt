@@ -1,12 +1,14 @@
 use borrow.Author.Needs.{needs}
 use borrow.Author.Tests.{eq-eqb, le-ltb, ltb-true, ltb-false}
+use lib.Bits.{bitOr}
 use lib.Dec.{ltb}
 use mathlib.Core.Path.{_≡_, refl, sym, ap, _∙_}
 use mathlib.Core.Bool.{Bool, true, false}
 use mathlib.Core.List.{List}
-use native.Mathlib.Nat.{add-zero, min-le-right, min-eq-left}
+use native.Mathlib.Nat.{add-zero, min-eq-left}
 use native.Mathlib.Omega.{arith}
 use Prim.Native.Nat.{ℕ, zero, suc, _+_, _-_, _*_, _<_, _≤_, min}
+use Rattle.sets.proofs.Laws.{or-empty}
 use Rattle.numbers.specs.declared.Verdict.the-variants.{Good}
 use Rattle.pack.specs.Image.{word, setWords, mostSymbols, setAt, prodAt, symbolAt, len, symbol}
 use Rattle.rules.specs.Rules.{symbolRight}
@@ -44,58 +46,49 @@ module _ (img : List ℕ) (p : ℕ) {used first : ℕ} (eu : used ≡ len img p)
       simp (symbolRule, rule, r)
 
   -- The four sets hold every unused symbol.
-  module _ {a b : ℕ} (ea : a ≡ min (used + setWords) (mostSymbols - setWords)) (eb : b ≡ min (used + 2 * setWords) (mostSymbols - setWords))
-      (z0 : setAt img (first + used) ≡ 0) (z1 : setAt img (first + a) ≡ 0) (z2 : setAt img (first + b) ≡ 0)
-      (z3 : setAt img (first + (mostSymbols - setWords)) ≡ 0) where
+  module _ {a b s₀ s₁ s₂ s₃ : ℕ} (ea : a ≡ min (used + setWords) (mostSymbols - setWords)) (eb : b ≡ min (used + 2 * setWords) (mostSymbols - setWords))
+      (e₀ : s₀ ≡ setAt img (first + used)) (e₁ : s₁ ≡ setAt img (first + a)) (e₂ : s₂ ≡ setAt img (first + b))
+      (e₃ : s₃ ≡ setAt img (first + (mostSymbols - setWords))) (none : bitOr (bitOr s₀ s₁) (bitOr s₂ s₃) ≡ 0) where
     unused-right : (i : ℕ) → used ≤ i → i < mostSymbols → symbolRule img p i ≡ Good
     unused-right i u h = go (ltb i (used + setWords)) refl (ltb i (mostSymbols - setWords)) refl (ltb i (used + 2 * setWords)) refl
       where
+        front : (s₀ ≡ 0) × (s₁ ≡ 0)
+        front = or-empty s₀ s₁ (or-empty (bitOr s₀ s₁) (bitOr s₂ s₃) none .0)
+
+        back : (s₂ ≡ 0) × (s₃ ≡ 0)
+        back = or-empty s₂ s₃ (or-empty (bitOr s₀ s₁) (bitOr s₂ s₃) none .1)
+
         go : (x : Bool) → ltb i (used + setWords) ≡ x → (y : Bool) → ltb i (mostSymbols - setWords) ≡ y → (w : Bool) → ltb i (used + 2 * setWords) ≡ w
             → symbolRule img p i ≡ Good
-        go true e y f w g = in-empty used z0 i u u (ltb-true i (used + setWords) e)
-        go false e false f w g = in-empty (mostSymbols - setWords) z3 i u (ltb-false i (mostSymbols - setWords) f) (omega arith)
+        go true e y f w g = in-empty used (sym e₀ ∙ front .0) i u u (ltb-true i (used + setWords) e)
+        go false e false f w g =
+            in-empty (mostSymbols - setWords) (sym e₃ ∙ back .1) i u (ltb-false i (mostSymbols - setWords) f) (omega arith)
         go false e true f true g =
             let l : used + setWords ≤ i = ltb-false i (used + setWords) e in
             let k : i < mostSymbols - setWords = ltb-true i (mostSymbols - setWords) f in
             let m : a ≡ used + setWords = ea ∙ min-eq-left (omega (arith, l, k)) in
-            in-empty a z1 i u (omega (arith, l, m)) (omega (arith, ltb-true i (used + 2 * setWords) g, m))
+            in-empty a (sym e₁ ∙ front .1) i u (omega (arith, l, m)) (omega (arith, ltb-true i (used + 2 * setWords) g, m))
         go false e true f false g =
             let l : used + 2 * setWords ≤ i = ltb-false i (used + 2 * setWords) g in
             let k : i < mostSymbols - setWords = ltb-true i (mostSymbols - setWords) f in
             let m : b ≡ used + 2 * setWords = eb ∙ min-eq-left (omega (arith, l, k)) in
-            in-empty b z2 i u (omega (arith, l, m)) (omega (arith, k, m))
-
-set-at-requires : tie.Need-set-at-requires
-set-at-requires c κs = omega (arith, c .prod-at .ensures .1, c .before .if1 .left)
-
-set-at-requires-2 : tie.Need-set-at-requires-2
-set-at-requires-2 c κs = omega (arith, c .before .before .before .prod-at .ensures .1, c .last-set .ensures, min-le-right (c .before .before .before .before .before .len .result + setWords) (mostSymbols - setWords))
-
-set-at-requires-3 : tie.Need-set-at-requires-3
-set-at-requires-3 c κs =
-    let p = c .before .before .before .before .before .before in
-    omega (arith, p .prod-at .ensures .1, c .last-set2 .ensures, min-le-right (p .before .before .len .result + 2 * setWords) (mostSymbols - setWords))
-
-set-at-requires-4 : tie.Need-set-at-requires-4
-set-at-requires-4 c κs = omega (arith, c .before .before .before .before .before .before .before .before .prod-at .ensures .1)
+            in-empty b (sym e₂ ∙ back .0) i u (omega (arith, l, m)) (omega (arith, k, m))
 
 returns-2 : tie.Need-returns-2
 returns-2 c =
-    let s4 = c .before in
-    let s3 = s4 .before .before in
-    let l2 = s3 .before in
-    let s2 = l2 .before .before in
-    let l1 = s2 .before in
-    let s1 = l1 .before .before in
-    let q = s1 .before in
-    let n = q .before .before in (
-      omega (arith, q .before .if1 .left),
-      unused-right _ _ (n .len .ensures) (ap (λ (k : ℕ). k + 2) (q .prod-at .ensures .0)) (l1 .last-set .ensures) (l2 .last-set2 .ensures)
-          (sym (s1 .set-at .ensures) ∙ l1 .before .if2 .taken) (sym (s2 .set-at2 .ensures) ∙ l2 .before .if3 .taken)
-          (sym (s3 .set-at3 .ensures) ∙ s4 .before .if4 .taken) (sym (s4 .set-at4 .ensures) ∙ c .if5 .taken),
+    let s₃ = c .before in
+    let s₂ = s₃ .before in
+    let l2 = s₂ .before in
+    let s₁ = l2 .before in
+    let l1 = s₁ .before in
+    let s₀ = l1 .before in
+    let q = s₀ .before in (
+      omega arith,
+      unused-right _ _ (q .before .before .len .ensures) (ap (λ (k : ℕ). k + 2) (q .prod-at .ensures .0)) (l1 .last-set .ensures)
+          (l2 .last-set2 .ensures) (s₀ .set-at .ensures) (s₁ .set-at2 .ensures) (s₂ .set-at3 .ensures) (s₃ .set-at4 .ensures) (c .if2 .taken),
     )
 
 pub to-look-at-spec : {M : Type 1} → statement M
 to-look-at-spec =
     tie.close
-    (tie.spec (λ c κs. search needs) (λ c. all-looked-at) (λ c κs. search needs) (λ c. search needs) (λ c. search needs) set-at-requires (λ c. search needs) (λ c κs. search needs) (λ c. search needs) set-at-requires-2 (λ c. search needs) (λ c. search needs) (λ c κs. search needs) (λ c. search needs) set-at-requires-3 (λ c. search needs) set-at-requires-4 returns-2 (λ c. all-looked-at) (λ c. all-looked-at) (λ c. all-looked-at) (λ c. all-looked-at))
+    (tie.spec (λ c κs. search needs) (λ c. all-looked-at) (λ c κs. search needs) (λ c. search needs) (λ c. search needs) (λ c κs. search needs) (λ c. search needs) (λ c κs. search needs) (λ c. search needs) (λ c κs. search needs) (λ c. search needs) (λ c. search needs) (λ c κs. search needs) (λ c. search needs) (λ c κs. search needs) (λ c. search needs) (λ c κs. search needs) returns-2 (λ c. all-looked-at))
