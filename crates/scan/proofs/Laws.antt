@@ -1,16 +1,17 @@
 -- One law for each way out of the loop of a scan, and one for its end, over what the callees ensure and the tests say, in the order
 -- of the code. Assumes nothing.
-use mathlib.Core.Path.{_≡_, sym, ap, _∙_}
+use mathlib.Core.Path.{_≡_, refl, sym, ap, _∙_}
 use mathlib.Core.List.{List}
-use mathlib.Core.Bool.{true, false}
+use mathlib.Core.Bool.{Bool, true, false}
 use Prim.Native.Nat.{ℕ, zero, suc, _+_, _-_, _<_, _≤_, min}
 use native.Mathlib.Nat.{sub-zero}
 use native.Mathlib.Omega.{arith}
 use lib.ListN.{length, getD, take, drop, length-drop, drop-of-length-le}
 use lib.Seq.{drop-cons, drop-drop, take-all}
 use lib.Bits.{bitAnd}
-use borrow.Author.Tests.{eq-eqb, ne-eqb, lt-ltb, le-ltb}
-use Rattle.sets.specs.Sets.{isEmpty}
+use lib.Dec.{ltb}
+use borrow.Author.Tests.{eq-eqb, ne-eqb, lt-ltb, le-ltb, ltb-true, ltb-false}
+use Rattle.sets.specs.Sets.{meet, isEmpty}
 use Rattle.numbers.specs.declared.Verdict.{Verdict}
 use Rattle.numbers.specs.Codes.{queryTooLong, wrongShape}
 use Rattle.pack.specs.Image.{classOf, move, acc, rej, poss, allButEnd}
@@ -42,6 +43,15 @@ module _ (img : List ℕ) (v allowance : ℕ) (bytes : List ℕ) (q n : ℕ) (ke
     unfolding onward moveOn isEmpty
     no-byte h = stops img v (allowance - n) (drop n bytes) q n kept (rw (drop-of-length-le bytes h) (simp (onward, isEmpty, ← e, ne-eqb _ _ s)))
 
+    -- Where no more bytes are to be looked at there is none, or the whole scan is made in another way.
+    pub either-end : {r : Stop} → (n < length bytes → r ≡ scan img v allowance bytes) → (length bytes ≤ n → r ≡ stopped kept n)
+        → scan img v allowance bytes ≡ scanFrom img v (allowance - n) (drop n bytes) q n kept → r ≡ scan img v allowance bytes
+    either-end {r} another end inv = go (ltb n (length bytes)) refl
+      where
+        go : (x : Bool) → ltb n (length bytes) ≡ x → r ≡ scan img v allowance bytes
+        go true f = another (ltb-true n (length bytes) f)
+        go false f = let h = ltb-false n (length bytes) f in end h ∙ sym (inv ∙ no-byte h)
+
     module _ (h : n < length bytes) {to : ℕ} (g : to ≡ move img q (classOf img (getD bytes n 0))) where
       moving : onward img v q (drop n bytes) ≡ to
       unfolding onward moveOn isEmpty
@@ -60,13 +70,12 @@ module _ (img : List ℕ) (v allowance : ℕ) (bytes : List ℕ) (q n : ℕ) (ke
             let z : allowance - n ≡ 0 = omega arith in
             rw z (simp (scanFrom, moving ∙ one-more))
 
-        pub moves-on : {a r : ℕ} {now : Remembered} → n < allowance → a ≡ acc img (to - 1) → r ≡ rej img (to - 1)
-            → now ≡ remember (bitAnd a v) (bitAnd r v) (n + 1) kept
+        pub moves-on : {now : Remembered} → n < allowance → now ≡ remember (meet (acc img (to - 1)) v) (meet (rej img (to - 1)) v) (n + 1) kept
             → scanFrom img v (allowance - n) (drop n bytes) q n kept ≡ scanFrom img v (allowance - (n + 1)) (drop (n + 1) bytes) (to - 1) (n + 1) now
         unfolding scanFrom
-        moves-on k ea er em =
+        moves-on k em =
             let z : allowance - n ≡ suc (allowance - (n + 1)) = omega arith in
-            rw z (simp (scanFrom, moving ∙ one-more, ← ea, ← er, ← em, drop-drop 1 n bytes))
+            rw z (simp (scanFrom, moving ∙ one-more, ← em, drop-drop 1 n bytes))
 
 -- "the rest of the text from the place on", as the code takes it.
 pub rest-of : (text : List ℕ) (place : ℕ) → take (length text - place) (drop place text) ≡ drop place text

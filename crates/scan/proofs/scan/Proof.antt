@@ -22,8 +22,8 @@ all-but-end-requires c κs =
     let w = i .before in
     good-laid _ (sym (w .before .shape .ensures) ∙ is-good _ (sym (w .is-wrong .ensures) ∙ i .if2 .left))
 
-one-scan-requires : tie.Need-one-scan-requires
-one-scan-requires c κs =
+any-scan-requires : tie.Need-any-scan-requires
+any-scan-requires c κs =
     let i = c .before .before .before in
     let w = i .before in
     let good = sym (w .before .shape .ensures) ∙ is-good _ (sym (w .is-wrong .ensures) ∙ i .if2 .left) in
@@ -36,9 +36,9 @@ returns-3 c =
     let i = p .before in
     let s = i .before .before in
     alone-scan _ _ _ _ _ (s .before .if1 .left) (s .shape .ensures) (sym (i .before .is-wrong .ensures) ∙ i .if2 .left) (p .within .ensures) (t .all-but-end .ensures)
-    (rest-of (s .before .before .before .before .args .text .now) (p .within .result)) (c .before .one-scan .ensures) (c .stop-code .ensures)
+    (rest-of (s .before .before .before .before .args .text .now) (p .within .result)) (c .before .any-scan .ensures) (c .stop-code .ensures)
 
 pub scan-spec : {M : Type 1} → statement M
 scan-spec =
     tie.close
-    (tie.spec (λ c κs. search needs) returns (λ c κs. search needs) (λ c κs. search needs) (λ c κs. search needs) (λ c κs. search needs) returns-2 (λ c κs. search needs) all-but-end-requires (λ c. search needs) (λ c. search needs) (λ c. search needs) one-scan-requires (λ c κs. search needs) returns-3)
+    (tie.spec (λ c κs. search needs) returns (λ c κs. search needs) (λ c κs. search needs) (λ c κs. search needs) (λ c κs. search needs) returns-2 (λ c κs. search needs) all-but-end-requires (λ c. search needs) (λ c. search needs) (λ c. search needs) any-scan-requires (λ c κs. search needs) returns-3)
