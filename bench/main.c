@@ -593,6 +593,13 @@ static void compare_scans(const struct image *image)
         uint32_t allowance = draw(2) ? UINT32_MAX : (uint32_t)draw(42);
         compare(&(struct call){SCAN, image, text, draw(41), draw(2) ? 0 : draw(42), set, allowance, 0, NULL});
     }
+    for (int i = 0; i < 1000; i++) {
+        uint8_t text[1200];
+        for (size_t b = 0; b < sizeof text; b++)
+            text[b] = (uint8_t)(draw(8) ? 97 + draw(26) : draw(256));
+        uint32_t allowance = draw(2) ? UINT32_MAX : (uint32_t)(400 + draw(800));
+        compare(&(struct call){SCAN, image, text, 500 + draw(701), draw(20), UINT64_MAX, allowance, 0, NULL});
+    }
 }
 
 /* A printout with ample room. */

@@ -20,6 +20,7 @@ static uint16_t image[MOST_WORDS], buffer[MOST_WORDS], tree[TREE_WORDS], chain[4
 static uint8_t pack_text[MOST_BYTES], pack_text2[MOST_BYTES], text[MOST_BYTES], printout[10 * LEAVES];
 static size_t words, pack_bytes, pack_bytes2;
 static const char *query;
+static char long_name[2001], long_string[2003];
 static uint64_t out[6];
 
 static _Noreturn void fail(const char *what)
@@ -166,8 +167,11 @@ static void measure_pack(const char *folder, const char *name, const char *good_
         pack_text[i] = byte;
         pack_text2[i] = byte2;
     }
-    query = "?";
-    measure();
+    const char *const others[] = {"?", long_name, long_string};
+    for (size_t i = 0; i < 3; i++) {
+        query = others[i];
+        measure();
+    }
 }
 
 static uint16_t *put_leaves(uint16_t *at, size_t count)
@@ -197,6 +201,8 @@ int main(int count, char **given)
     if (count != 2)
         fail("usage: stack PACKS");
     make_trees();
+    memset(long_name, 'a', sizeof long_name - 1);
+    snprintf(long_string, sizeof long_string, "\"%s\"", long_name);
     measure_pack(given[1], "small.pack", "tax by day", 1);
     measure_pack(given[1], "json.pack", "[1, {\"a\": null}]", 20);
     measure_pack(given[1], "profile.pack", "share of std::sort under main", 100);

@@ -187,6 +187,10 @@ fn scan_cases(mix: &mut Mix) -> Vec<Case> {
     for ranges in [0, 1, 2, 63, 64] {
         cases.extend(mix.border_bundle(ranges));
     }
+    // Short and long scans that hang on the class of every byte.
+    for ranges in [2, 64] {
+        cases.extend(mix.far_bundle(ranges));
+    }
     // Each rule of the shape broken, with one scan that is refused by it.
     for image in mix.broken_rules() {
         cases.push(Case::Shape {

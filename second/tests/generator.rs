@@ -13,7 +13,7 @@ use second::gen::rng::Rng;
 use second::gen::scanner;
 use second::gen::wide::greatest_sizes;
 use second::hits;
-use second::image::Action;
+use second::image::{Action, Pack};
 use second::marked::SMALL_PACK;
 use second::scan::scan;
 use second::sets;
@@ -382,6 +382,35 @@ fn a_pack_that_tells_classes_tells_that_of_every_byte() {
                 (scanned.set, scanned.moves),
                 (sets::single(class + 1), 1),
                 "byte {byte} of {count} ranges"
+            );
+        }
+    }
+}
+
+#[test]
+fn a_long_scan_hangs_on_the_class_of_every_byte() {
+    let mut rng = Rng::new(4);
+    for count in [1, 2, 63, 64] {
+        let ranges = borders::ranges(&mut rng, count);
+        let image = borders::remembering(&ranges).image();
+        assert!(pack(&image).is_ok(), "{count} ranges");
+        let text: Vec<u8> = (0..1_000).map(|_| rng.number() as u8).collect();
+        let whole = scan(&image, &text, 0, u64::MAX, u32::MAX);
+        assert_eq!(whole.moves, 1_000);
+        let last = |text: &[u8]| {
+            (0..8)
+                .map(|n| scan(&image, &text[..1_000 - n], 0, u64::MAX, u32::MAX))
+                .collect::<Vec<_>>()
+        };
+        let classes = Pack::new(&image).classes();
+        for place in [0, 1, 500, 900] {
+            let other =
+                (0..=255).find(|&b| classes[usize::from(b)] != classes[usize::from(text[place])]);
+            let mut changed = text.clone();
+            changed[place] = other.unwrap();
+            assert!(
+                last(&text) != last(&changed),
+                "{count} ranges, byte {place}"
             );
         }
     }

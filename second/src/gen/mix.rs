@@ -160,6 +160,10 @@ impl Mix {
             let ranges = self.rng.from_to(0, most);
             return self.border_bundle(ranges);
         }
+        if !self.small && self.kinds.scan && self.bundles % 40 == 25 {
+            let ranges = self.rng.from_to(0, 64);
+            return self.far_bundle(ranges);
+        }
         // A tree need not come from a parse; where nothing else is wanted, three of four are made without one.
         let without_a_parse = match self.kinds {
             Kinds::PRINT => self.bundles % 4 != 0,
@@ -185,6 +189,44 @@ impl Mix {
             allowance: u32::MAX,
         };
         (0..256).map(scan).collect()
+    }
+
+    /// Scans over every byte, again and again, for a pack with so many ranges whose scans hang on each of them: short and long ones, and with
+    /// allowances about what they need.
+    pub fn far_bundle(&mut self, ranges: usize) -> Vec<Case> {
+        let ranges = borders::ranges(&mut self.rng, ranges);
+        let image: Image = Rc::new(borders::remembering(&ranges).image());
+        let mut text: Vec<u8> = Vec::new();
+        for _ in 0..self.rng.from_to(3, 5) {
+            let mut bytes: Vec<u8> = (0..=255).collect();
+            self.rng.shuffle(&mut bytes);
+            text.extend(bytes);
+        }
+        let length = text.len();
+        let text: Text = Rc::new(text);
+        let mut cases = Vec::new();
+        for left in [length, 514, 513, 512, 511, 510, self.rng.from_to(0, length)] {
+            let set = match self.rng.percent(50) {
+                true => Set::MAX,
+                false => self.rng.number(),
+            };
+            let near = self.rng.from_to(508, 515);
+            for allowance in [
+                u32::MAX,
+                left as u32,
+                left as u32 - left.min(1) as u32,
+                near as u32,
+            ] {
+                cases.push(Case::Scan {
+                    image: image.clone(),
+                    text: text.clone(),
+                    start: (length - left) as u32,
+                    set,
+                    allowance,
+                });
+            }
+        }
+        cases
     }
 
     fn scale(&mut self) -> Scale {
