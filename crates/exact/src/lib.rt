@@ -312,11 +312,11 @@ pub fn acts(img: &[u16]) -> Verdict
 
 // The first of n words from a place on that is above the most it may be.
 fn cells(img: &[u16], start: usize, n: usize, most: usize) -> Verdict
-    requires { ⌜ start + n ≤ length (now img) ⌝ }
+    requires { ⌜ (start + n ≤ length (now img)) × (most < 65536) ⌝ }
     ensures { λ r. ⌜ r ≡ each (λ i. cellRule (now (img .entry)) most (start + i)) n 0 ⌝ }
 {
     let end = start + n;
-    if quick::largest(&img[start..end]) <= most {
+    if quick::over(&img[start..end], most as u16) == 0 {
         return Verdict::Good;
     }
     let mut i: usize = 0;

@@ -2,11 +2,11 @@
 use mathlib.Core.Path.{_≡_, refl, sym, ap, _∙_}
 use mathlib.Core.Bool.{Bool, true, false, _&&_}
 use mathlib.Core.List.{List}
-use Prim.Native.Nat.{ℕ, zero, suc, _+_, _*_, _-_, _/_, _%_, _<_, _≤_, _^_}
-use native.Mathlib.Nat.{zero-add, add-mul, mul-le-mul-right, mod-lt}
+use Prim.Native.Nat.{ℕ, zero, suc, _+_, _*_, _-_, _/_, _%_, _<_, _≤_, _^_, min, max}
+use native.Mathlib.Nat.{zero-add, add-zero, add-mul, mul-le-mul-right, mod-lt}
 use native.Mathlib.Omega.{arith}
 use lib.Arith.{digits-lt}
-use lib.Bits.{bitOr}
+use lib.Bits.{bitOr, or-step}
 use lib.Dec.{eqb, ltb}
 use lib.ListN.{length, getD, take, drop, length-drop}
 use lib.Seq.{length-take-le, getD-take, getD-drop}
@@ -61,9 +61,14 @@ is-one zero l p = absurd (p refl)
 is-one (suc zero) l p = refl
 is-one (suc (suc x)) l p = absurd (omega arith)
 
--- A code within its limits is within greater ones.
-pub limited-more : {a b a′ b′ code : ℕ} → Limited a b code → a ≤ a′ → b ≤ b′ → Limited a′ b′ code
-limited-more l h k = record { even = λ e. omega (arith, l .even e); odd = λ e. omega (arith, l .odd e) }
+-- One limit is even and the other odd. So a code is within its own where it is not above the greater one, and above the lesser one, if at all, by
+-- an odd number.
+own-limit : (s p code : ℕ) → code ≤ max (s * 2) (p * 2 + 1) → (code - (min (s * 2) (p * 2 + 1) + 1)) % 2 ≡ 0 → Limited (s * 2) (p * 2 + 1) code
+own-limit s p code h k = record { even = λ e. omega arith; odd = λ e. omega arith }
+
+-- Numbers joined are even where each is.
+pub or-even : (a b : ℕ) → bitOr a b % 2 ≡ 0 → (a % 2 ≡ 0) × (b % 2 ≡ 0)
+or-even a b e = (omega (arith, or-step a b), omega (arith, or-step a b))
 
 -- A code within its limit is right, where it stands as it may.
 module _ (img : List ℕ) (t code : ℕ) (shut : member (layout img) t ≡ true → code ≡ 0) (no-shift : t ≡ 0 → code % 2 ≡ 0 → code ≡ 0)
@@ -121,10 +126,11 @@ module _ (img : List ℕ) (from rows : ℕ) (laid : Laid img) (within : from + r
         let z : start + (s * terminals img + t) ≡ actAt img (from + s) t = omega (arith, add-mul from s (terminals img)) in
         part-at img start (end - start) (s * terminals img + t) (omega (arith, inside, acts-length)) ∙ rw z refl
 
-  pub acts-good : {shift reduction n : ℕ} → Codes cells shift reduction n → shift ≤ states img * 2 → reduction ≤ productions img * 2 + 1
-      → First img from rows n → Shut img from rows → each (rowRule img Act) rows from ≡ Good
+  pub acts-good : {low most apart over n : ℕ} → Codes cells low most apart over n → low ≡ min (states img * 2) (productions img * 2 + 1) + 1
+      → most ≡ max (states img * 2) (productions img * 2 + 1) → apart % 2 ≡ 0 → over ≡ 0 → First img from rows n → Shut img from rows
+      → each (rowRule img Act) rows from ≡ Good
   unfolding rowRule actRule rule accept
-  acts-good {n = n} c h k f shut =
+  acts-good {low} {most} {n = n} c el em ea eo f shut =
       each-all _ rows from (λ s ls. each-all (actRule img (from + s)) (terminals img) 0 (λ t lt. rw (zero-add t) (right ls lt)))
     where
       by-rows : n ≡ sum (λ s. sum (accepts s) (terminals img)) rows
@@ -132,8 +138,8 @@ module _ (img : List ℕ) (from rows : ℕ) (laid : Laid img) (within : from + r
           (rw acts-length at (c .accepts)) ∙ sum-rows (λ i. accept (getD cells i 0)) (terminals img) rows
           ∙ sum-same _ _ rows (λ s ls. sum-same _ _ (terminals img) (λ t lt. ap (λ (x : ℕ). accept x) (there ls lt)))
 
-      most : (s : ℕ) → s < rows → sum (accepts s) (terminals img) ≤ accepts s 0
-      most =
+      no-more : (s : ℕ) → s < rows → sum (accepts s) (terminals img) ≤ accepts s 0
+      no-more =
           tight (λ s. accepts s 0) (λ s. sum (accepts s) (terminals img)) rows (λ s l. first (accepts s) (terminals img) (omega arith))
           (rw by-rows at (f .accepts))
 
@@ -141,11 +147,15 @@ module _ (img : List ℕ) (from rows : ℕ) (laid : Laid img) (within : from + r
       in-first s zero ls lt e = refl
       in-first s (suc t) ls lt e =
           let a : accepts s (suc t) ≡ 1 = simp (accept, e) in
-          absurd (omega (arith, most s ls, first-and (accepts s) (terminals img) (suc t) (omega arith) lt))
+          absurd (omega (arith, no-more s ls, first-and (accepts s) (terminals img) (suc t) (omega arith) lt))
+
+      limited : {s t : ℕ} → s < rows → t < terminals img → Limited (states img * 2) (productions img * 2 + 1) (act img (from + s) t)
+      limited ls lt =
+          own-limit _ _ _ (rw (there ls lt, em, eo, add-zero) at (c .each .each _ (inside ls lt))) (rw (there ls lt, el) at (c .even ea _ (inside ls lt)))
 
       right : {s t : ℕ} → s < rows → t < terminals img → actRule img (from + s) t ≡ Good
       right {s} {t} ls lt =
-          let l = limited-more (rw (there ls lt) at (c .each _ (inside ls lt))) h k in
+          let l = limited ls lt in
           let r = code-right img t _ (λ m. shut .each t lt m s ls) (λ z. rw z (f .no-shift s ls)) (in-first s t ls lt) l in
           simp (actRule, rule, r)
 

@@ -2,7 +2,7 @@
 use mathlib.Core.Path.{_≡_}
 use mathlib.Core.Bool.{true, false}
 use mathlib.Core.List.{List}
-use Prim.Native.Nat.{ℕ, zero, suc, _+_, _*_, _%_, _<_, _≤_}
+use Prim.Native.Nat.{ℕ, zero, suc, _+_, _*_, _-_, _%_, _<_, _≤_}
 use lib.Dec.{eqb}
 use lib.ListN.{length, getD}
 use Rattle.sets.specs.Sets.{has, member, meet}
@@ -26,9 +26,11 @@ pub record Limited (shift reduction code : ℕ) : Type 0 where
   pub even : code % 2 ≡ 0 → code ≤ shift
   pub odd : code % 2 ≡ 1 → code ≤ reduction
 
--- That holds for each of some codes, and so many of them accept.
-pub record Codes (words : List ℕ) (shift reduction n : ℕ) : Type 0 where
-  pub each : (j : ℕ) → j < length words → Limited shift reduction (getD words j 0)
+-- Each of some codes is above one number by so much at the most, and above another by an even number where the numbers joined are even; and so
+-- many of them accept.
+pub record Codes (words : List ℕ) (low most apart over n : ℕ) : Type 0 where
+  pub each : Above words (most + over)
+  pub even : apart % 2 ≡ 0 → (j : ℕ) → j < length words → (getD words j 0 - low) % 2 ≡ 0
   pub accepts : n ≡ sum (λ j. accept (getD words j 0)) (length words)
 
 -- In so many rows of the action table, from a row on: column 0 has no shift, and so many accepts or more.

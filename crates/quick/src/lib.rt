@@ -4,34 +4,38 @@
 use pack::image;
 ghost use mathlib.Core.Path.{_≡_};
 ghost use mathlib.Core.Bool.{true, false};
-ghost use Prim.Native.Nat.{ℕ, _+_, _-_, _*_, _%_, _<_, _≤_};
+ghost use Prim.Native.Nat.{ℕ, _+_, _-_, _*_, _%_, _<_, _≤_, min, max};
 ghost use lib.ListN.{length};
 ghost use Rattle.sets.specs.Sets.{member};
 ghost use Rattle.numbers.specs.declared.Verdict.the-variants.{Good};
 ghost use Rattle.order.specs.declared.Ruled.the-variants.{Dom, Act, Scan};
 ghost use Rattle.pack.specs.Image.{setWords, terminals, states, scanStates, actStart, dom, act};
 ghost use Rattle.pack.specs.Laid.{Laid};
-ghost use Rattle.order.specs.Quick.{Above, accept, Limited, Codes, First, Shut, Parts, Apart};
+ghost use Rattle.order.specs.Quick.{Above, accept, Codes, First, Shut, Parts, Apart};
 ghost use Rattle.order.specs.Rows.{rowRule};
 ghost use Rattle.order.specs.Shape.{each};
 
-fn larger(a: u16, b: u16) -> u16
-    ensures { λ r. ⌜ (a ≤ r) × (b ≤ r) ⌝ }
+// By how much a word is above a limit.
+fn excess(word: u16, most: u16) -> u16
+    ensures { λ r. ⌜ r ≡ word - most ⌝ }
 {
-    if a < b { b } else { a }
+    if most < word {
+        return word - most;
+    }
+    0
 }
 
-// No word is above it.
-pub fn largest(words: &[u16]) -> usize
-    ensures { λ r. ⌜ Above (now (words .entry)) r ⌝ }
+// No word is above the limit by more.
+pub fn over(words: &[u16], most: u16) -> u16
+    ensures { λ r. ⌜ Above (now (words .entry)) (most + r) ⌝ }
 {
-    let mut top: u16 = 0;
+    let mut all: u16 = 0;
     let mut i: usize = 0;
     while i < words.len() {
-        top = larger(top, words[i]);
+        all = all | excess(words[i], most);
         i += 1;
     }
-    top as usize
+    all
 }
 
 // 1 where an action code accepts.
@@ -44,42 +48,32 @@ fn accept(code: u16) -> u16
     0
 }
 
-// The code where it is even, and else 0.
-fn even(code: u16) -> u16
-    ensures { λ r. ⌜ (r ≤ code) × (Limited r (code - r) code) ⌝ }
-{
-    if code % 2 == 0 {
-        return code;
-    }
-    0
-}
-
-// What a pass over action codes tells of them: no even one is above `shift`, no odd one above `reduction`, and `accepts` of them accept.
+// What a pass over action codes tells of them: none is above the greater limit by more than `over`, all are above the lower one by an even number
+// where `apart` is even, and `accepts` of them accept.
 struct Tally {
-    shift: u16,
-    reduction: u16,
+    apart: u16,
+    over: u16,
     accepts: u16,
 }
 
-fn codes(words: &[u16]) -> Tally
+fn codes(words: &[u16], low: u16, most: u16) -> Tally
     requires { ⌜ length (now words) < 65536 ⌝ }
-    ensures { λ r. ⌜ Codes (now (words .entry)) (r .shift) (r .reduction) (r .accepts) ⌝ }
+    ensures { λ r. ⌜ Codes (now (words .entry)) low most (r .apart) (r .over) (r .accepts) ⌝ }
 {
-    let mut shift: u16 = 0;
-    let mut reduction: u16 = 0;
+    let mut apart: u16 = 0;
+    let mut over: u16 = 0;
     let mut n: u16 = 0;
     let mut i: usize = 0;
     while i < words.len() {
         let code = words[i];
-        let e = even(code);
-        shift = larger(shift, e);
-        reduction = larger(reduction, code - e);
+        apart = apart | excess(code, low);
+        over = over | excess(code, most);
         n += accept(code);
         i += 1;
     }
     Tally {
-        shift: shift,
-        reduction: reduction,
+        apart: apart,
+        over: over,
         accepts: n,
     }
 }
@@ -170,7 +164,20 @@ fn row_start(img: &[u16], s: usize) -> usize
     image::act_start(img) + s * image::terminals(img)
 }
 
-// Whether every action code is right in some rows, the first of which is given. The accepts are those of column 0 where there are no more.
+fn lesser(a: u16, b: u16) -> u16
+    ensures { λ r. ⌜ r ≡ min a b ⌝ }
+{
+    if a < b { a } else { b }
+}
+
+fn larger(a: u16, b: u16) -> u16
+    ensures { λ r. ⌜ r ≡ max a b ⌝ }
+{
+    if a < b { b } else { a }
+}
+
+// Whether every action code is right in some rows, the first of which is given. Up to the lesser of the greatest shift and the greatest reduction
+// both kinds are right; above it every second code is, up to the greater one. The accepts are those of column 0 where there are no more.
 pub fn acts(img: &[u16], from: usize, rows: usize) -> bool
     requires { ⌜ Laid (now img) ⌝ }
     requires { ⌜ from + rows ≤ states (now img) ⌝ }
@@ -178,13 +185,15 @@ pub fn acts(img: &[u16], from: usize, rows: usize) -> bool
 {
     let shifts = (image::states(img) * 2) as u16;
     let reductions = (image::productions(img) * 2 + 1) as u16;
+    let low = lesser(shifts, reductions) + 1;
+    let most = larger(shifts, reductions);
     let start = row_start(img, from);
     let end = row_start(img, from + rows);
-    let all = codes(&img[start..end]);
-    if shifts < all.shift {
+    let all = codes(&img[start..end], low, most);
+    if all.over != 0 {
         return false;
     }
-    if reductions < all.reduction {
+    if all.apart % 2 != 0 {
         return false;
     }
     if first_column(img, from, rows, all.accepts) {

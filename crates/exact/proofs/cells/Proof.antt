@@ -1,6 +1,7 @@
 use borrow.Author.Needs.{needs}
 use mathlib.Core.Path.{_≡_, refl, sym, _∙_}
 use Prim.Native.Nat.{_+_, _≤_, _-_}
+use native.Mathlib.Omega.{arith}
 use Rattle.order.specs.Shape.{each, cellRule}
 use Rattle.order.proofs.Laws.{each-start, each-end, each-hit, each-on, cell-wrong, cell-good, wrong-is, good-is}
 use Rattle.order.proofs.Sound.{all-below}
@@ -17,7 +18,7 @@ returns : tie.Need-returns Inv-loop μ-loop
 returns c =
     let g = c .before in
     let s = g .before .before .before in
-    all-below _ _ _ (s .args .start + s .args .n) _ refl (s .pre) (g .largest .ensures) (c .if1 .taken)
+    all-below _ _ _ (s .args .start + s .args .n) _ refl (s .pre .0) (g .over .ensures) (omega (arith, c .if1 .taken))
 
 loop-holds : tie.Need-loop-holds Inv-loop μ-loop
 loop-holds c = (search needs, each-start _ refl)
@@ -38,4 +39,4 @@ returns-3 c = sym (c .before .loop .inv .1 ∙ each-end _ _ _ (c .loop-test .lef
 pub cells-spec : {M : Type 1} → statement M
 cells-spec =
     tie.close
-    (tie.spec Inv-loop μ-loop (λ c. search needs) (λ c. search needs) (λ c. search needs) (λ c. search needs) (λ c. search needs) (λ c κs. search needs) returns loop-holds (λ c. search needs) (λ c κs. search needs) (λ c. search needs) returns-2 (λ c. search needs) (λ c. search needs) loop-again returns-3)
+    (tie.spec Inv-loop μ-loop (λ c. search needs) (λ c. search needs) (λ c. search needs) (λ c. search needs) (λ c. search needs) (λ c. search needs) (λ c κs. search needs) returns loop-holds (λ c. search needs) (λ c κs. search needs) (λ c. search needs) returns-2 (λ c. search needs) (λ c. search needs) loop-again returns-3)
