@@ -15,9 +15,6 @@ ghost use Rattle.order.specs.declared.Ruled.the-variants.{Dom, Act, Scan};
 ghost use Rattle.order.specs.Rows.{rowRule, rowsOf};
 ghost use Rattle.order.specs.Shape.{each, layoutRule, domRule, symbolRule, prodRule, actRule, cellRule, gotoRules, rangeRule, moveRules, scanRule, groupRule};
 
-// The symbol from which the last set is read.
-const LAST_SET: usize = image::MOST_SYMBOLS - image::SET_WORDS;
-
 pub fn layout_rule(img: &[u16]) -> Verdict
     requires { ⌜ Laid (now img) ⌝ }
     ensures { λ r. ⌜ r ≡ layoutRule (now (img .entry)) ⌝ }
@@ -41,33 +38,17 @@ fn symbol_rule(img: &[u16], p: usize, i: usize) -> Verdict
     rule(rules::symbol_right(img, p, i), image::symbol_at(img, p, i))
 }
 
-// The symbol from which a set is read, so that it ends with the symbols at the latest.
-fn last_set(i: usize) -> usize
-    ensures { λ r. ⌜ r ≡ min i (mostSymbols - setWords) ⌝ }
-{
-    if i < LAST_SET {
-        return i;
-    }
-    LAST_SET
-}
-
-// How many symbols of a production have to be looked at: all after them are unused and 0. They are read as sets, four at a time and some of
-// them twice, and the four are joined, so that there is one test and no loop whose end the machine would have to foresee.
+// How many symbols of a production have to be looked at: all after them are unused and 0.
 fn to_look_at(img: &[u16], p: usize) -> usize
     requires { ⌜ Laid (now img) ⌝ }
     requires { ⌜ p < productions (now img) ⌝ }
     ensures { λ r. ⌜ (r ≤ mostSymbols) × ((i : ℕ) → r ≤ i → i < mostSymbols → symbolRule (now (img .entry)) p i ≡ Good) ⌝ }
 {
     let used = image::len(img, p);
-    if LAST_SET < used {
+    if productions::LAST_SET < used {
         return image::MOST_SYMBOLS;
     }
-    let first = image::prod_at(img, p) + 2;
-    let front = image::set_at(img, first + used)
-        | image::set_at(img, first + last_set(used + image::SET_WORDS));
-    let back = image::set_at(img, first + last_set(used + 2 * image::SET_WORDS))
-        | image::set_at(img, first + LAST_SET);
-    if front | back == 0 {
+    if productions::joined(img, p, used) == 0 {
         return used;
     }
     image::MOST_SYMBOLS
@@ -201,11 +182,15 @@ fn rows(img: &[u16], table: Ruled, from: usize, n: usize) -> Verdict
     Verdict::Good
 }
 
-// The tables that are walked at once, each by a loop of its own: a short table costs no more than its rows.
+// The tables that are walked at once, each by a loop of its own: a short table costs no more than its rows. Only of many long productions there is a
+// quick pass.
 pub fn prods(img: &[u16]) -> Verdict
     requires { ⌜ Laid (now img) ⌝ }
     ensures { λ r. ⌜ r ≡ each (prodRule (now (img .entry))) (productions (now (img .entry))) 0 ⌝ }
 {
+    if productions::all_right(img) {
+        return Verdict::Good;
+    }
     let n = image::productions(img);
     let mut i: usize = 0;
     while i < n {

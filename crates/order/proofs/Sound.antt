@@ -25,10 +25,10 @@ use Rattle.order.proofs.Laws.{both, each-all}
 use Rattle.order.proofs.Sums.{sum-same, sum-rows, first, first-and, tight}
 
 -- A part of the image, by its words.
-part-at : (img : List ℕ) (start n j : ℕ) → j < n → getD (take n (drop start img)) j 0 ≡ word img (start + j)
+pub part-at : (img : List ℕ) (start n j : ℕ) → j < n → getD (take n (drop start img)) j 0 ≡ word img (start + j)
 part-at img start n j l = getD-take n (drop start img) j 0 l ∙ getD-drop start img j 0
 
-part-length : (img : List ℕ) (start n : ℕ) → start + n ≤ length img → length (take n (drop start img)) ≡ n
+pub part-length : (img : List ℕ) (start n : ℕ) → start + n ≤ length img → length (take n (drop start img)) ≡ n
 part-length img start n h = length-take-le n (drop start img) (omega (arith, length-drop start img))
 
 -- Where no word of a run is above the most it may be, each is right.

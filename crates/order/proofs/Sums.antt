@@ -23,7 +23,7 @@ unfolding sum
 sum-same f g zero h = refl
 sum-same f g (suc n) h = ap₂ (λ (a b : ℕ). a + b) (sum-same f g n (λ i l. h i (omega arith))) (h n (omega arith))
 
-sum-append : (f : ℕ → ℕ) (a b : ℕ) → sum f (a + b) ≡ sum f a + sum (λ i. f (a + i)) b
+pub sum-append : (f : ℕ → ℕ) (a b : ℕ) → sum f (a + b) ≡ sum f a + sum (λ i. f (a + i)) b
 unfolding sum
 sum-append f a zero = rw (add-zero a) (sym (add-zero (sum f a)))
 sum-append f a (suc b) =
@@ -37,7 +37,7 @@ sum-rows f w zero = rw (zero-mul w) refl
 sum-rows f w (suc r) = rw (suc-mul r w, sum-append f (r * w) w) (omega (arith, sum-rows f w r))
 
 -- A term is at most the sum, and so is the first one with another.
-term : (f : ℕ → ℕ) (n i : ℕ) → i < n → f i ≤ sum f n
+pub term : (f : ℕ → ℕ) (n i : ℕ) → i < n → f i ≤ sum f n
 unfolding sum
 term f zero i l = absurd (not-suc-le-zero l)
 term f (suc n) i l = below-more (λ j. f j ≤ sum f n + f n) _ (λ j h. omega (arith, term f n j h)) (omega arith) i (omega arith)
