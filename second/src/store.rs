@@ -44,6 +44,7 @@ impl File {
     /// About how large the case file becomes.
     fn bytes(self) -> usize {
         match self {
+            File::Scan => 500_000,
             File::Print => 25_000,
             File::Forms => 640_000,
             _ => 445_000,
@@ -197,6 +198,11 @@ fn scan_cases(mix: &mut Mix) -> Vec<Case> {
             image: image.clone(),
         });
         scans(&image, &[b"a"], &[Set::MAX], &mut cases);
+    }
+    // Many long productions, which a reader may count instead of walking.
+    for layout in 0..3 {
+        let images = mix.long_productions(layout, 12);
+        cases.extend(images.into_iter().map(|image| Case::Shape { image }));
     }
     cases.extend(mix.greatest_bundle());
     cases

@@ -251,7 +251,7 @@ impl Mix {
         }
     }
 
-    /// Tables of good shape: passing, passing but for some changes, random, or looping.
+    /// Tables of good shape: passing, passing but for some changes, random, of these some with many long productions, or looping.
     fn good_tables(&mut self) -> (Tables, Option<Language>) {
         if self.small && (self.kinds.text || self.kinds.forms) && self.rng.percent(70) {
             // The reader, the writers and the moves look at the shape only, so very small ones serve them best.
@@ -272,6 +272,9 @@ impl Mix {
                     random::change(&mut self.rng, &mut tables);
                 }
                 (tables, Some(passing.language))
+            }
+            75..=88 if !self.small && self.rng.once_in(3) => {
+                (random::long_productions(&mut self.rng), None)
             }
             75..=88 => {
                 let large = !self.small && self.rng.once_in(15);
@@ -1087,6 +1090,43 @@ impl Mix {
                     }
                 }
             }
+        }
+        images
+    }
+
+    /// Many long productions with so many terminals of layout, whole and with a word changed to one about a limit.
+    pub fn long_productions(&mut self, layout: u32, changes: usize) -> Vec<Image> {
+        let tables = loop {
+            let tables = random::long_productions(&mut self.rng);
+            if sets::count(tables.layout) == layout {
+                break tables;
+            }
+        };
+        let whole = tables.image();
+        let pack = Pack::new(&whole);
+        let (t, n) = (pack.sizes.terminals, pack.sizes.nonterminals);
+        let skipped = sets::lowest(tables.layout).unwrap_or(0);
+        let limits = [
+            0,
+            1,
+            t - 1,
+            t,
+            14,
+            15,
+            63,
+            64,
+            63 + n,
+            64 + n,
+            skipped,
+            65_535,
+        ];
+        let mut images = vec![Rc::new(whole.clone())];
+        for _ in 0..changes {
+            let mut image = whole.clone();
+            let p = self.rng.below(pack.sizes.productions);
+            let place = pack.prod_place(p) + self.rng.below(2 + PROD_SYMBOLS);
+            image[place] = *self.rng.pick(&limits) as u16;
+            images.push(Rc::new(image));
         }
         images
     }

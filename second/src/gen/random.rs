@@ -3,7 +3,7 @@
 use super::rng::Rng;
 use super::tables::{nonterminal, Production, ScanSets, Tables};
 use super::wide::greatest_sizes;
-use crate::image::{Range, Sizes};
+use crate::image::{Range, Sizes, PROD_SYMBOLS};
 use crate::sets::{self, Set};
 
 /// Random sizes; `large` ones reach up to the greatest.
@@ -59,10 +59,7 @@ pub fn least_sizes(rng: &mut Rng) -> Sizes {
 pub fn tables(rng: &mut Rng, sizes: Sizes) -> Tables {
     let all = sets::below(sizes.terminals) & !sets::single(0);
     let layout = if rng.percent(40) { rng.set(all, 20) } else { 0 };
-    let symbols: Vec<u16> = sets::members(all & !layout)
-        .map(|t| t as u16)
-        .chain((0..sizes.nonterminals).map(nonterminal))
-        .collect();
+    let symbols = symbols(sizes, layout);
     let outranking = *rng.pick(&[0, 10, 40]);
     let dom = (0..sizes.terminals)
         .map(|t| match t {
@@ -141,6 +138,28 @@ fn row(rng: &mut Rng, length: usize, greatest: usize, dense: usize) -> Vec<u16> 
             }
         })
         .collect()
+}
+
+/// The symbols that a production may have.
+fn symbols(sizes: Sizes, layout: Set) -> Vec<u16> {
+    let terminals = sets::below(sizes.terminals) & !sets::single(0) & !layout;
+    sets::members(terminals)
+        .map(|t| t as u16)
+        .chain((0..sizes.nonterminals).map(nonterminal))
+        .collect()
+}
+
+/// Small tables but for the productions: about forty, of any length.
+pub fn long_productions(rng: &mut Rng) -> Tables {
+    let mut sizes = sizes(rng, false);
+    sizes.productions = rng.from_to(30, 44);
+    let mut tables = tables(rng, sizes);
+    let symbols = symbols(sizes, tables.layout);
+    for production in &mut tables.productions {
+        let len = rng.from_to(0, PROD_SYMBOLS);
+        production.symbols = (0..len).map(|_| *rng.pick(&symbols)).collect();
+    }
+    tables
 }
 
 fn random_production(rng: &mut Rng, nonterminals: usize, symbols: &[u16]) -> Production {
