@@ -10,9 +10,9 @@ use lib.Bits.{bitOr, or-step}
 use lib.Dec.{eqb, ltb}
 use lib.ListN.{length, getD, take, drop, length-drop}
 use lib.Seq.{length-take-le, getD-take, getD-drop}
-use borrow.Author.Tests.{eq-eqb, ne-eqb, le-leb, lt-ltb, eqb-true, eqb-false, ltb-true}
-use Rattle.sets.specs.Sets.{has, member, lacks, isEmpty}
-use Rattle.sets.proofs.Laws.{out-lacks, has-or, or-left, or-right}
+use borrow.Author.Tests.{eq-eqb, ne-eqb, le-leb, lt-ltb, eqb-true, eqb-false, leb-false, ltb-true}
+use Rattle.sets.specs.Sets.{has, member, lacks, isEmpty, several, count, lowest}
+use Rattle.sets.proofs.Laws.{out-lacks, has-none, has-or, or-left, or-right, lowest-lt, lowest-in, at-most-one}
 use Rattle.numbers.specs.declared.Verdict.the-variants.{Good}
 use Rattle.order.specs.declared.Ruled.the-variants.{Dom, Act, Scan}
 use Rattle.pack.specs.Image.{word, setWords, setAt, terminals, productions, states, scanStates, domStart, actStart, scanStart, actAt, scanAt, rejAt, possAt, layout, dom, act, actionOf, acc, rej, poss}
@@ -158,6 +158,14 @@ module _ (img : List ℕ) (from rows : ℕ) (laid : Laid img) (within : from + r
           let l = limited ls lt in
           let r = code-right img t _ (λ m. shut .each t lt m s ls) (λ z. rw z (f .no-shift s ls)) (in-first s t ls lt) l in
           simp (actRule, rule, r)
+
+-- The terminals of a set with at most one are the lowest.
+pub only-lowest : (set t : ℕ) → set < 2 ^ 64 → several set ≡ false → t < 64 → member set t ≡ true → t ≡ lowest set
+unfolding several member
+only-lowest set t b s l e =
+    let h : has set t ≡ 1 = eqb-true _ _ e in
+    let m : lowest set < 64 = lowest-lt 64 set b (λ z. let y : has set t ≡ 0 = rw z (has-none t) in omega arith) in
+    at-most-one 64 set t (lowest set) (omega (arith, leb-false 2 (count set) s)) l m h (lowest-in 64 set m)
 
 -- The code at its place.
 pub code-at : (img : List ℕ) (s t : ℕ) {at : ℕ} → at ≡ actAt img s t → word img at ≡ act img s t

@@ -8,8 +8,8 @@ use native.Mathlib.Omega.{arith}
 use lib.Dec.{eqb, leb, ltb}
 use lib.ListN.{length, getD, take, drop}
 use borrow.Author.Tests.{eq-eqb, ne-eqb, le-leb, lt-leb, lt-ltb, le-ltb, eqb-true, eqb-false, leb-true, leb-false, ltb-true, ltb-false}
-use Rattle.sets.specs.Sets.{has, member, lacks, several, count, lowest}
-use Rattle.sets.proofs.Laws.{has-none, out-lacks, lowest-lt, lowest-in, at-most-one}
+use Rattle.sets.specs.Sets.{member, lacks, several, lowest}
+use Rattle.sets.proofs.Laws.{out-lacks}
 use Rattle.numbers.specs.declared.Verdict.the-variants.{Good}
 use Rattle.pack.specs.Image.{word, mostSymbols, productionWords, firstNonterminal, terminals, nonterminals, productions, prodStart, actStart, prodAt, symbolAt, layout, lhs, len, symbol}
 use Rattle.pack.specs.Laid.{Laid}
@@ -18,7 +18,7 @@ use Rattle.order.specs.Quick.{sum}
 use Rattle.order.specs.Shape.{rule, andThen, each, symbolRule, prodRule}
 use Rattle.order.proofs.Laws.{each-all}
 use Rattle.order.proofs.Sums.{sum-append, sum-same, sum-rows, term, tight}
-use Rattle.order.proofs.Sound.{part-at, part-length}
+use Rattle.order.proofs.Sound.{part-at, part-length, only-lowest}
 use Rattle.productions.specs.Flat.{past, noTerminal, noSymbol, allowed, Head, Heads}
 
 -- A sum whose terms from one on are 1.
@@ -49,14 +49,6 @@ past-below x first most h l = go (leb first x) refl l
     go : (b : Bool) → leb first x ≡ b → elim b as (λ _. ℕ) [ true ↦ x - first | false ↦ x + (65536 - first) ] < most → (first ≤ x) × (x < first + most)
     go true e k = let f = leb-true first x e in (f, omega arith)
     go false e k = absurd (omega arith)
-
--- The terminals of a set with at most one are the lowest.
-only-lowest : (set t : ℕ) → set < 2 ^ 64 → several set ≡ false → t < 64 → member set t ≡ true → t ≡ lowest set
-unfolding several member
-only-lowest set t b s l e =
-    let h : has set t ≡ 1 = eqb-true _ _ e in
-    let m : lowest set < 64 = lowest-lt 64 set b (λ z. let y : has set t ≡ 0 = rw z (has-none t) in omega arith) in
-    at-most-one 64 set t (lowest set) (omega (arith, leb-false 2 (count set) s)) l m h (lowest-in 64 set m)
 
 -- What the counts say of a word.
 module _ (img : List ℕ) (laid : Laid img) (bound : layout img < 2 ^ 64) (last n one : ℕ) (el : last ≡ terminals img - 1) (en : n ≡ nonterminals img)

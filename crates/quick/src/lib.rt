@@ -6,10 +6,10 @@ ghost use mathlib.Core.Path.{_≡_};
 ghost use mathlib.Core.Bool.{true, false};
 ghost use Prim.Native.Nat.{ℕ, _+_, _-_, _*_, _%_, _<_, _≤_, min, max};
 ghost use lib.ListN.{length};
-ghost use Rattle.sets.specs.Sets.{member};
+ghost use Rattle.sets.specs.Sets.{member, several};
 ghost use Rattle.numbers.specs.declared.Verdict.the-variants.{Good};
 ghost use Rattle.order.specs.declared.Ruled.the-variants.{Dom, Act, Scan};
-ghost use Rattle.pack.specs.Image.{setWords, terminals, states, scanStates, actStart, dom, act};
+ghost use Rattle.pack.specs.Image.{setWords, terminals, states, scanStates, actStart, layout, dom, act};
 ghost use Rattle.pack.specs.Laid.{Laid};
 ghost use Rattle.order.specs.Quick.{Above, accept, Codes, First, Shut, Parts, Apart};
 ghost use Rattle.order.specs.Rows.{rowRule};
@@ -136,8 +136,21 @@ fn right_column(img: &[u16], from: usize, rows: usize, set: u64, t: usize) -> bo
     true
 }
 
-// Whether each layout column has errors only in some rows.
-fn layout_columns(img: &[u16], from: usize, rows: usize) -> bool
+// Whether each layout column has errors only in some rows, where there is one or none.
+fn only_column(img: &[u16], from: usize, rows: usize, set: u64) -> bool
+    requires { ⌜ Laid (now img) ⌝ }
+    requires { ⌜ (from + rows ≤ states (now img)) × (set ≡ layout (now img)) × (several set ≡ false) ⌝ }
+    ensures { λ r. ⌜ (r ≡ true → Shut (now (img .entry)) from rows) ⌝ }
+{
+    let t = sets::lowest(set) as usize;
+    if t < image::terminals(img) {
+        return empty_column(img, from, rows, t);
+    }
+    true
+}
+
+// Whether each layout column has errors only in some rows, however many there are.
+fn every_column(img: &[u16], from: usize, rows: usize) -> bool
     requires { ⌜ Laid (now img) ⌝ }
     requires { ⌜ from + rows ≤ states (now img) ⌝ }
     ensures { λ r. ⌜ (r ≡ true → Shut (now (img .entry)) from rows) ⌝ }
@@ -153,6 +166,19 @@ fn layout_columns(img: &[u16], from: usize, rows: usize) -> bool
         }
     }
     true
+}
+
+// Whether each layout column has errors only in some rows.
+fn layout_columns(img: &[u16], from: usize, rows: usize) -> bool
+    requires { ⌜ Laid (now img) ⌝ }
+    requires { ⌜ from + rows ≤ states (now img) ⌝ }
+    ensures { λ r. ⌜ (r ≡ true → Shut (now (img .entry)) from rows) ⌝ }
+{
+    let set = image::layout(img);
+    if sets::several(set) {
+        return every_column(img, from, rows);
+    }
+    only_column(img, from, rows, set)
 }
 
 // Where a row of actions begins, or the table ends.
