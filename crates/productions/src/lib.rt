@@ -15,6 +15,12 @@ ghost use Rattle.productions.specs.Flat.{past, noTerminal, noSymbol, all
 // So many productions pay for the pass.
 const MANY: usize = 32;
 
+// The bits of a word.
+const WORD_BITS: usize = 16;
+
+// The number of nonterminal 0 among the symbols.
+const FIRST_NONTERMINAL: u16 = image::FIRST_NONTERMINAL as u16;
+
 // The symbol from which the last set is read.
 pub const LAST_SET: usize = image::MOST_SYMBOLS - image::SET_WORDS;
 
@@ -52,7 +58,7 @@ fn unused_right(img: &[u16], p: usize, used: usize) -> bool
     if used == image::MOST_SYMBOLS {
         return true;
     }
-    joined(img, p, used) >> (16 * (used - last_set(used))) == 0
+    joined(img, p, used) >> (WORD_BITS * (used - last_set(used))) == 0
 }
 
 // Whether the left side, the length and the unused symbols of a production are right.
@@ -76,7 +82,7 @@ fn past(word: u16, first: u16) -> u16
     if first <= word {
         return word - first;
     }
-    word + (65535 - first) + 1
+    word + (u16::MAX - first) + 1
 }
 
 // 1 where a word is no terminal from 1 to the last, or the one of layout.
@@ -96,7 +102,7 @@ fn no_terminal(word: u16, last: u16, layout: u16) -> u16
 fn no_symbol(word: u16, last: u16, n: u16, layout: u16) -> u16
     ensures { λ r. ⌜ (r ≡ noSymbol last n layout word) × (r ≤ 1) ⌝ }
 {
-    if past(word, 64) < n {
+    if past(word, FIRST_NONTERMINAL) < n {
         return 0;
     }
     no_terminal(word, last, layout)
@@ -122,9 +128,10 @@ fn allowed(img: &[u16], p: usize, last: u16, layout: u16) -> u16
     requires { ⌜ (p < productions (now img)) × Head (now img) p ⌝ }
     ensures { λ r. ⌜ (r ≡ allowed (now (img .entry)) last layout p) × (r ≤ 16) ⌝ }
 {
-    let lhs = image::lhs(img, p) as u16;
-    let len = image::len(img, p) as u16;
-    no_terminal(lhs, last, layout) + no_terminal(len, last, layout) + (14 - len)
+    let lhs = no_terminal(image::lhs(img, p) as u16, last, layout);
+    let used = image::len(img, p);
+    let len = no_terminal(used as u16, last, layout);
+    lhs + len + (image::MOST_SYMBOLS - used) as u16
 }
 
 // Whether the heads of all productions are right, and so many words of them may be no symbols.
