@@ -15,6 +15,9 @@ ghost use Rattle.order.specs.declared.Ruled.the-variants.{Dom, Act, Scan};
 ghost use Rattle.order.specs.Rows.{rowRule, rowsOf};
 ghost use Rattle.order.specs.Shape.{each, layoutRule, domRule, symbolRule, prodRule, actRule, cellRule, gotoRules, rangeRule, moveRules, scanRule, groupRule};
 
+// So many words pay for a pass over them.
+const SHORT: usize = 16;
+
 pub fn layout_rule(img: &[u16]) -> Verdict
     requires { ⌜ Laid (now img) ⌝ }
     ensures { λ r. ⌜ r ≡ layoutRule (now (img .entry)) ⌝ }
@@ -301,8 +304,10 @@ fn cells(img: &[u16], start: usize, n: usize, most: usize) -> Verdict
     ensures { λ r. ⌜ r ≡ each (λ i. cellRule (now (img .entry)) most (start + i)) n 0 ⌝ }
 {
     let end = start + n;
-    if quick::over(&img[start..end], most as u16) == 0 {
-        return Verdict::Good;
+    if SHORT <= n {
+        if quick::over(&img[start..end], most as u16) == 0 {
+            return Verdict::Good;
+        }
     }
     let mut i: usize = 0;
     while i < n {

@@ -191,21 +191,23 @@ part-fits img set all p e =
 
 -- The sets of dom, and those of the scan states.
 module _ (img : List ℕ) {all : ℕ} (f : fits img all ≡ true) where
-  pub doms-good : {n : ℕ} → n ≡ terminals img → Parts img domStart n all → domRight img 0 ≡ true
+  pub doms-good : {n : ℕ} → n ≡ terminals img → Parts img domStart n all → dom img 0 ≡ 0
       → ((t : ℕ) → t < terminals img → member (dom img t) t ≡ false) → each (rowRule img Dom) (terminals img) 0 ≡ Good
-  unfolding rowRule domRule domRight rule dom
+  unfolding rowRule domRule domRight rule dom isEmpty
   doms-good en p first none = each-all (domRule img) (terminals img) 0 (λ t l. rw (zero-add t) (go t l))
     where
       go : (t : ℕ) → t < terminals img → domRule img t ≡ Good
-      go zero l = simp (domRule, rule, first)
+      go zero l =
+          let r : domRight img 0 ≡ true = simp (domRight, isEmpty, eq-eqb _ _ first) in
+          simp (domRule, rule, r)
       go (suc t) l =
           let s = part-fits img _ all (p .each (suc t) (omega arith)) f in
           let r : domRight img (suc t) ≡ true =
           simp (domRight, ne-eqb (suc t) 0 (λ z. omega arith), s, out-lacks _ _ (none (suc t) l), _&&_) in
           simp (domRule, rule, r)
 
-  pub scans-good : {start n : ℕ} → start ≡ scanStart img → n ≡ 3 * scanStates img → Parts img start n all → accRight img 0 ≡ true
-      → rejRight img 0 ≡ true → Apart img → each (rowRule img Scan) (scanStates img) 0 ≡ Good
+  pub scans-good : {start n : ℕ} → start ≡ scanStart img → n ≡ 3 * scanStates img → Parts img start n all → acc img 0 ≡ 0
+      → rej img 0 ≡ 0 → Apart img → each (rowRule img Scan) (scanStates img) 0 ≡ Good
   unfolding rowRule scanRule rule andThen emptyAtStart isEmpty acc rej poss
   scans-good {start} {n} es en p first second apart = each-all (scanRule img) (scanStates img) 0 (λ q l. rw (zero-add q) (go q l))
     where
@@ -222,11 +224,11 @@ module _ (img : List ℕ) {all : ℕ} (f : fits img all ≡ true) where
       poss-fits q l = let z : start + (3 * q + 2) * setWords ≡ possAt img q = omega arith in rw z at (set-fits q 2 l (omega arith))
 
       acc-is : (q : ℕ) → q < scanStates img → accRight img q ≡ true
-      acc-is zero l = first
+      acc-is zero l = simp (acc-fits zero l, emptyAtStart, isEmpty, eq-eqb _ _ first, _&&_)
       acc-is (suc q) l = simp (acc-fits (suc q) l, emptyAtStart, ne-eqb (suc q) 0 (λ z. omega arith), _&&_)
 
       rej-is : (q : ℕ) → q < scanStates img → rejRight img q ≡ true
-      rej-is zero l = second
+      rej-is zero l = simp (rej-fits zero l, emptyAtStart, isEmpty, eq-eqb _ _ second, eq-eqb _ _ (apart .each zero l), _&&_)
       rej-is (suc q) l = simp (rej-fits (suc q) l, emptyAtStart, ne-eqb (suc q) 0 (λ z. omega arith), isEmpty, eq-eqb _ _ (apart .each (suc q) l), _&&_)
 
       go : (q : ℕ) → q < scanStates img → scanRule img q ≡ Good

@@ -242,6 +242,14 @@ fn union(img: &[u16], start: usize, n: usize) -> u64
     all
 }
 
+// Whether a terminal is in a set: it is not asked whether it can be.
+fn in_set(set: u64, t: usize) -> bool
+    requires { ⌜ t < 64 ⌝ }
+    ensures { λ r. ⌜ r ≡ member set t ⌝ }
+{
+    (set >> t) % 2 == 1
+}
+
 // Whether no terminal outranks itself.
 fn none_itself(img: &[u16]) -> bool
     requires { ⌜ Laid (now img) ⌝ }
@@ -250,7 +258,7 @@ fn none_itself(img: &[u16]) -> bool
     let n = image::terminals(img);
     let mut t: usize = 0;
     while t < n {
-        if sets::member(image::dom(img, t), t) {
+        if in_set(image::dom(img, t), t) {
             return false;
         }
         t += 1;
@@ -264,7 +272,7 @@ pub fn doms(img: &[u16]) -> bool
     ensures { λ r. ⌜ (r ≡ true → each (rowRule (now (img .entry)) Dom) (terminals (now (img .entry))) 0 ≡ Good) ⌝ }
 {
     if rules::fits(img, union(img, image::DOM_START, image::terminals(img))) {
-        if rules::dom_right(img, 0) {
+        if image::dom(img, 0) == 0 {
             return none_itself(img);
         }
     }
@@ -297,10 +305,8 @@ pub fn scans(img: &[u16]) -> bool
         img,
         union(img, image::scan_start(img), 3 * image::scan_states(img)),
     ) {
-        if rules::acc_right(img, 0) {
-            if rules::rej_right(img, 0) {
-                return all_apart(img);
-            }
+        if image::acc(img, 0) | image::rej(img, 0) == 0 {
+            return all_apart(img);
         }
     }
     false

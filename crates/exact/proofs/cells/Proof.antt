@@ -17,8 +17,8 @@ abbrev μ-loop : tie.MeasureT-loop
 returns : tie.Need-returns Inv-loop μ-loop
 returns c =
     let g = c .before in
-    let s = g .before .before .before in
-    all-below _ _ _ (s .args .start + s .args .n) _ refl (s .pre .0) (g .over .ensures) (omega (arith, c .if1 .taken))
+    let s = g .before .before .before .before in
+    all-below _ _ _ (s .args .start + s .args .n) _ refl (s .pre .0) (g .over .ensures) (omega (arith, c .if2 .taken))
 
 loop-holds : tie.Need-loop-holds Inv-loop μ-loop
 loop-holds c = (search needs, each-start _ refl)
@@ -26,12 +26,12 @@ loop-holds c = (search needs, each-start _ refl)
 returns-2 : tie.Need-returns-2 Inv-loop μ-loop
 returns-2 c =
     let l = c .before .before in
-    sym (l .before .loop .inv .1 ∙ each-hit _ _ _ (l .loop-test .taken) _ (cell-wrong _ _ _ (c .before .word-at .ensures) (c .if2 .taken)) (wrong-is _))
+    sym (l .before .loop .inv .1 ∙ each-hit _ _ _ (l .loop-test .taken) _ (cell-wrong _ _ _ (c .before .word-at .ensures) (c .if3 .taken)) (wrong-is _))
 
 loop-again : tie.Need-loop-again Inv-loop μ-loop
 loop-again c =
     let l = c .before .before in
-    (search needs, l .before .loop .inv .1 ∙ each-on _ _ _ (l .loop-test .taken) _ (cell-good _ _ _ (c .before .word-at .ensures) (c .if2 .left)) good-is)
+    (search needs, l .before .loop .inv .1 ∙ each-on _ _ _ (l .loop-test .taken) _ (cell-good _ _ _ (c .before .word-at .ensures) (c .if3 .left)) good-is)
 
 returns-3 : tie.Need-returns-3 Inv-loop μ-loop
 returns-3 c = sym (c .before .loop .inv .1 ∙ each-end _ _ _ (c .loop-test .left))

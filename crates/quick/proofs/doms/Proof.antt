@@ -13,15 +13,9 @@ returns c =
     let f = d .before .before in
     let u = f .before in
     λ e. doms-good _ (sym (f .fits2 .ensures) ∙ d .before .if1 .taken) (u .before .terminals .ensures) (u .union .ensures)
-    (sym (d .dom-right .ensures) ∙ c .before .if2 .taken) (c .none-itself .ensures e)
-
-returns-2 : tie.Need-returns-2
-returns-2 c = λ e. not-true e
-
-returns-3 : tie.Need-returns-3
-returns-3 c = λ e. not-true e
+    (sym (d .dom .ensures) ∙ c .before .if2 .taken) (c .none-itself .ensures e)
 
 pub doms-spec : {M : Type 1} → statement M
 doms-spec =
     tie.close
-    (tie.spec (λ c κs. search needs) union-requires (λ c κs. search needs) (λ c κs. search needs) (λ c κs. search needs) returns returns-2 returns-3)
+    (tie.spec (λ c κs. search needs) union-requires (λ c κs. search needs) (λ c κs. search needs) (λ c κs. search needs) returns (λ c e. not-true e) (λ c e. not-true e))

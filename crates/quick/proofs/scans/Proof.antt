@@ -1,6 +1,7 @@
 use borrow.Author.Needs.{needs}
 use mathlib.Core.Path.{sym, _∙_}
 use native.Mathlib.Omega.{arith}
+use Rattle.sets.proofs.Laws.{or-empty}
 use Rattle.order.proofs.Sound.{scans-good, scans-within, not-true}
 use Rattle.quick.proofs.scans.Statement.{statement}
 use Rattle.quick.proofs.scans.Tie as tie
@@ -12,23 +13,14 @@ union-requires c κs =
 returns : tie.Need-returns
 returns c =
     let r = c .before .before in
-    let a = r .before .before in
+    let a = r .before in
     let f = a .before .before in
     let u = f .before in
+    let empty = or-empty _ _ (c .before .if2 .taken) in
     λ e. scans-good _ (sym (f .fits2 .ensures) ∙ a .before .if1 .taken) (u .before .before .scan-start .ensures) (omega (arith, u .before .scan-states .ensures))
-    (u .union .ensures)
-    (sym (a .acc-right .ensures) ∙ r .before .if2 .taken) (sym (r .rej-right .ensures) ∙ c .before .if3 .taken) (c .all-apart .ensures e)
-
-returns-2 : tie.Need-returns-2
-returns-2 c = λ e. not-true e
-
-returns-3 : tie.Need-returns-3
-returns-3 c = λ e. not-true e
-
-returns-4 : tie.Need-returns-4
-returns-4 c = λ e. not-true e
+    (u .union .ensures) (sym (a .acc .ensures) ∙ empty .0) (sym (r .rej .ensures) ∙ empty .1) (c .all-apart .ensures e)
 
 pub scans-spec : {M : Type 1} → statement M
 scans-spec =
     tie.close
-    (tie.spec (λ c κs. search needs) (λ c κs. search needs) (λ c. search needs) union-requires (λ c κs. search needs) (λ c κs. search needs) (λ c κs. search needs) (λ c κs. search needs) returns returns-2 returns-3 returns-4)
+    (tie.spec (λ c κs. search needs) (λ c κs. search needs) (λ c. search needs) union-requires (λ c κs. search needs) (λ c κs. search needs) (λ c κs. search needs) (λ c κs. search needs) returns (λ c e. not-true e) (λ c e. not-true e))
