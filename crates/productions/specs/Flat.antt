@@ -34,6 +34,7 @@ pub record Heads (img : List ℕ) (last layout most : ℕ) : Type 0 where
   pub each : (p : ℕ) → p < productions img → Head img p
   pub enough : most ≤ sum (allowed img last layout) (productions img)
 
--- The symbols of a production from one on are 0 where a number has no bit from that of the first of them on in the last four.
+-- What the unused symbols of a production tell when joined: all are 0 where the number has no bit, but for the lowest ones, which are those of the
+-- used symbols among the last four.
 pub record Covers (img : List ℕ) (p used all : ℕ) : Type 0 where
   pub each : all < 2 ^ (16 * (used - min used (mostSymbols - setWords))) → (i : ℕ) → used ≤ i → i < mostSymbols → symbol img p i ≡ 0

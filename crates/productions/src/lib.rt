@@ -34,8 +34,8 @@ fn last_set(i: usize) -> usize
     LAST_SET
 }
 
-// The symbols of a production from one on, joined. They are read as sets, four at a time and some of them twice, so that there is no loop whose end
-// the machine would have to foresee.
+// The unused symbols of a production, joined; where they begin within the last four, with the used ones of these in the lowest bits. They are read as
+// sets, four at a time and some of them twice, so that there is no loop whose end the machine would have to foresee.
 pub fn joined(img: &[u16], p: usize, used: usize) -> u64
     requires { ⌜ Laid (now img) ⌝ }
     requires { ⌜ (p < productions (now img)) × (used ≤ mostSymbols) ⌝ }
@@ -49,7 +49,7 @@ pub fn joined(img: &[u16], p: usize, used: usize) -> u64
     front | back
 }
 
-// Whether the symbols of a production from one on are 0.
+// Whether the unused symbols of a production are 0.
 fn unused_right(img: &[u16], p: usize, used: usize) -> bool
     requires { ⌜ Laid (now img) ⌝ }
     requires { ⌜ (p < productions (now img)) × (used ≤ mostSymbols) ⌝ }
