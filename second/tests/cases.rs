@@ -83,7 +83,7 @@ fn the_stored_files_are_small_and_deterministic_and_cover_everything() {
     let mut total = 0;
     let mut counts = std::collections::BTreeMap::new();
     for (file, sizes) in [
-        (File::Scan, 300_000..450_000),
+        (File::Scan, 300_000..510_000),
         (File::Text, 300_000..450_000),
         (File::Parse, 300_000..450_000),
         (File::Print, 20_000..40_000),
