@@ -1,5 +1,7 @@
 // The tables of the shape, walked word by word: each function gives the verdict on an entry, a row or a table. Inner functions: they ask
 // for an image that is laid out as its sizes say.
+#![tactic(auto)]
+
 ghost use Rattle.std.specs.Prelude.{◌≡◌, ℕ, ◌+◌, ◌-◌, ◌<◌, ◌≤◌, min, length};
 ghost use Rattle.pack.specs.Image.{most_symbols, set_words, terminals, productions, states, scan_states, ranges, groups};
 ghost use Rattle.pack.specs.Laid.{Laid};

@@ -1,4 +1,6 @@
 // The head of the shape: word 0, the eight sizes and the length of the whole. It asks nothing of the words.
+#![tactic(auto)]
+
 ghost use Rattle.std.specs.Prelude.{◌≡◌, ◌<◌};
 ghost use Rattle.pack.specs.Image.{head_words, size_words};
 ghost use Rattle.order.specs.Shape.{each, size_rule, head_rules};

@@ -1,5 +1,7 @@
 // The codes that are given back, by name and in the order of their numbers, the limits that they guard, what the shape test says, and
 // how words are handed to a caller.
+#![tactic(auto)]
+
 ghost use Rattle.std.specs.Prelude.{◌≡◌, length};
 ghost use Rattle.numbers.specs.Front.{Delivers, deliver};
 ghost use Rattle.numbers.specs.Verdicts.{is_wrong, verdict_code, verdict_place};
@@ -44,7 +46,7 @@ pub const MOST_RECORDS: usize = 65535;
 pub const MOST_STATES: usize = 512;
 
 // What the shape test says: every word is right, or this is the place of the first wrong one.
-#[derive(Drop)]
+#[derive(Clone, Copy)]
 pub enum Verdict {
     Good,
     Wrong(usize),
@@ -81,7 +83,7 @@ pub fn verdict_place(v: Verdict) -> usize
 }
 
 // What is given back by a function that fills a buffer: the code, and the number that goes with it.
-#[derive(Drop)]
+#[derive(Clone, Copy)]
 pub struct Answer {
     pub code: u8,
     pub number: usize,

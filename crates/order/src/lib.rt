@@ -1,5 +1,7 @@
 // What the tests of the shape share: one rule's verdict, and the tables that have a quick pass over their rows. The definition of the shape, which is
 // the order of its rules, is in specs/, and what it gives in proofs/.
+#![tactic(auto)]
+
 ghost use Rattle.std.specs.Prelude.{◌≡◌};
 ghost use Rattle.order.specs.Shape.{rule};
 
@@ -16,7 +18,7 @@ pub fn rule(holds: bool, place: usize) -> Verdict
 }
 
 // The tables that are walked row by row where a quick pass says no.
-#[derive(Drop)]
+#[derive(Clone, Copy)]
 pub enum Ruled {
     Dom,
     Act,

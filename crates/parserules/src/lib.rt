@@ -1,5 +1,7 @@
 // The rules of the shape for the sizes, the layout and the parser's tables, each a test of one word or of one set. These are inner functions:
 // all but the first ask for an image that is laid out as its sizes say.
+#![tactic(auto)]
+
 ghost use Rattle.std.specs.Prelude.{◌≡◌, ◌<◌};
 ghost use Rattle.pack.specs.Image.{head_words, most_symbols, terminals, productions, action_of};
 ghost use Rattle.pack.specs.Laid.{Laid};

@@ -1,4 +1,6 @@
 // Where the entries of an image stand.
+#![tactic(auto)]
+
 pub mod starts; // starts.rt: where each table begins
 
 ghost use Rattle.std.specs.Prelude.{◌≡◌, ◌+◌, ◌*◌, ◌<◌, ◌≤◌, length};

@@ -3,12 +3,12 @@ use mathlib.Core.Path.{◌≡◌, refl, sym, ap, ◌∙◌}
 use mathlib.Core.Bool.{Bool, true, false, ◌&&◌}
 use mathlib.Core.List.{List}
 use Prim.Native.Nat.{ℕ, zero, suc, ◌+◌, ◌*◌, ◌-◌, ◌^◌, ◌<◌, ◌≤◌}
-use native.Mathlib.Nat.{zero-add, add-zero, mul-le-mul_right}
+use native.Mathlib.Nat.{zero-add, add-zero}
 use native.Mathlib.Omega.{arith}
 use lib.Dec.{eqb, leb, ltb}
 use lib.ListN.{length, get_or, take, drop}
-use borrow.Author.Tests.{eq-eqb, ne_eqb, le-leb, lt-leb, lt-ltb, le-ltb, eqb-true, eqb-false, leb-true, leb-false, ltb-true, ltb-false}
-use Rattle.sets.specs.Sets.{member, lacks, several, lowest}
+use borrow.Author.Tests.{eq-eqb, le-leb, lt-leb, lt-ltb, le-ltb, eqb-false, leb-true, ltb-true, ltb-false}
+use Rattle.sets.specs.Sets.{member, several, lowest}
 use Rattle.sets.proofs.Laws.{out_lacks}
 use Rattle.numbers.specs.declared.Verdict.TheVariants.{Good}
 use Rattle.pack.specs.Image.{word, most_symbols, production_words, first_nonterminal, terminals, nonterminals, productions, prod_start, act_start, prod_at, symbol_at, layout, lhs, len, symbol}

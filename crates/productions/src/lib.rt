@@ -1,5 +1,7 @@
 // A quick pass over the productions where many of them are long: all their words are one run. It says only whether all is well: where it
 // says no, the exact walk of crate `exact` gives the place. Inner functions: they ask for an image that is laid out as its sizes say.
+#![tactic(auto)]
+
 ghost use Rattle.std.specs.Prelude.{◌≡◌, true, ℕ, ◌+◌, ◌-◌, ◌<◌, ◌≤◌, min, length, get_or};
 ghost use Rattle.pack.specs.Image.{set_words, most_symbols, productions, layout, symbol};
 ghost use Rattle.pack.specs.Laid.{Laid};
@@ -180,7 +182,7 @@ fn long(img: &[u16], n: usize) -> bool
 // Whether all productions are right, if layout is one terminal or none: as many words as are no symbols may be none.
 fn flat(img: &[u16], set: u64) -> bool
     requires laid { Laid img.now }
-    requires set_value { set ≡ layout img.now }
+    requires layout_set { set ≡ layout img.now }
     ensures { result ≡ true → each (prod_rule img.now) (productions img.now) 0 ≡ Good }
 {
     if sets::several(set) {

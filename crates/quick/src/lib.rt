@@ -1,6 +1,8 @@
 // Quick passes over the tables. Each says only whether all is well: where it says no, the exact walk of crate `exact` gives the place. So a
 // pass promises something only where it says yes. Where a table is large its pass has no way out before the end, so that the compiler can
 // take many words at once.
+#![tactic(auto)]
+
 ghost use Rattle.std.specs.Prelude.{◌≡◌, true, false, ℕ, ◌+◌, ◌-◌, ◌*◌, ◌%◌, ◌<◌, ◌≤◌, min, max, length};
 ghost use Rattle.sets.specs.Sets.{member, several};
 ghost use Rattle.numbers.specs.declared.Verdict.TheVariants.{Good};
@@ -48,7 +50,7 @@ fn accept(code: u16) -> u16
 
 // What a pass over action codes tells of them: none is above the greater limit by more than `over`, all are above the lower one by an even number
 // where `apart` is even, and `accepts` of them accept.
-#[derive(Drop)]
+#[derive(Clone, Copy)]
 struct Tally {
     apart: u16,
     over: u16,

@@ -1,5 +1,7 @@
 // The rules of the shape for the scanner's tables and the groups, each a test of one word or of one set. These are inner functions, which ask for
 // an image that is laid out as its sizes say. Passed on: the rules for the sizes, the layout and the parser's tables.
+#![tactic(auto)]
+
 ghost use Rattle.std.specs.Prelude.{◌≡◌, ◌<◌, ◌≤◌};
 ghost use Rattle.pack.specs.Image.{scan_states, ranges, groups};
 ghost use Rattle.pack.specs.Laid.{Laid};

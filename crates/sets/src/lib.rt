@@ -1,4 +1,6 @@
 // Terminal sets as 64-bit numbers: bit t for terminal t. What is in both sets is `a & b`, what is in either `a | b`.
+#![tactic(auto)]
+
 ghost use Rattle.std.specs.Prelude.{◌≡◌, ◌-◌};
 ghost use Rattle.sets.specs.Sets.{member, less, subset, count, several, lowest};
 

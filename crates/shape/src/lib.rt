@@ -1,4 +1,6 @@
 // The shape of any words: good, or the place of the first wrong one.
+#![tactic(auto)]
+
 ghost use Rattle.std.specs.Prelude.{◌≡◌};
 ghost use Rattle.pack.specs.Image.{size_words};
 ghost use Rattle.pack.specs.Laid.{Laid};

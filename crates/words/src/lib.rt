@@ -1,9 +1,11 @@
 // The words of an image: how many a thing takes, a word and a set at a place, the sizes, and what an action code says.
+#![tactic(auto)]
+
 ghost use Rattle.std.specs.Prelude.{◌≡◌, ◌+◌, ◌*◌, ◌<◌, ◌≤◌, length};
 ghost use Rattle.words.specs.Image.{action_of, word, set_words, head_words, set_at, terminals, nonterminals, productions, states, scan_states, classes, ranges, groups, least_size, greatest_size};
 
 // What a cell of the action table asks for.
-#[derive(Drop)]
+#[derive(Clone, Copy)]
 pub enum Action {
     Error,
     Accept,
