@@ -1,4 +1,6 @@
 // K5, the condition on the ways back: its test, and the search for the first parse state and production at which it fails.
+#![tactic(auto)]
+
 ghost use Rattle.std.specs.Prelude.{◌≡◌, true, ◌<◌, ◌≤◌, length};
 ghost use Rattle.pack.specs.Image.{most_symbols, states, productions, len};
 ghost use Rattle.pack.specs.Laid.{Laid};
@@ -14,7 +16,7 @@ use edges::rows;
 use pack::image;
 
 // Whether K5 holds, and how many steps back are made by now.
-#[derive(Drop)]
+#[derive(Clone, Copy)]
 pub struct Tested {
     pub right: bool,
     pub depth: usize,
@@ -33,10 +35,10 @@ fn production(
     depth: usize,
 ) -> Tested
     requires laid { Laid img.now }
-    requires img_value { shape img.now ≡ Good }
+    requires good_shape { shape img.now ≡ Good }
     requires s_bound { (s < states img.now) × ((p < productions img.now) × (depth ≤ most_symbols)) }
-    requires p_value { reduces img.now s p ≡ true }
-    requires sources { (Sources img.now (states img.now) from.now) × (Carried img.now (states img.now) on.now) }
+    requires row_reduces { reduces img.now s p ≡ true }
+    requires edge_tables { (Sources img.now (states img.now) from.now) × (Carried img.now (states img.now) on.now) }
     requires goers { Goers img.now (states img.now) goes.now }
     requires walked { Walked img.now s depth back.old into.old }
     ensures { (result.right ≡ k5 img.now s p) × ((Walked img.now s result.depth back.new into.new) × (result.depth ≤ most_symbols)) }
@@ -64,13 +66,13 @@ fn row5(
     into: &mut [u64; 256],
 ) -> Finding
     requires laid { Laid img.now }
-    requires img_value { shape img.now ≡ Good }
+    requires good_shape { shape img.now ≡ Good }
     requires s_bound { s < states img.now }
-    requires sources { (Sources img.now (states img.now) from.now) × (Carried img.now (states img.now) on.now) }
+    requires edge_tables { (Sources img.now (states img.now) from.now) × (Carried img.now (states img.now) on.now) }
     requires goers { Goers img.now (states img.now) goes.now }
     requires back_len { (length back.old ≡ 256) × (length into.old ≡ 256) }
     ensures value { result ≡ in_row (test c5 img.now s) s (productions img.now) 0 }
-    ensures back_len_2 { (length back.new ≡ 256) × (length into.new ≡ 256) }
+    ensures lengths_after { (length back.new ≡ 256) × (length into.new ≡ 256) }
 {
     let by = edges::reductions(img, s);
     let low = by.low;
@@ -93,8 +95,8 @@ fn row5(
 // The first parse state, and its first production, at which K5 fails.
 pub fn find_k5(img: &[u16], from: &[u64; 256], on: &[u64; 256], goes: &[u64; 256]) -> Finding
     requires laid { Laid img.now }
-    requires img_value { shape img.now ≡ Good }
-    requires sources { (Sources img.now (states img.now) from.now) × (Carried img.now (states img.now) on.now) }
+    requires good_shape { shape img.now ≡ Good }
+    requires edge_tables { (Sources img.now (states img.now) from.now) × (Carried img.now (states img.now) on.now) }
     requires goers { Goers img.now (states img.now) goes.now }
     ensures { result ≡ find c5 img.now }
 {

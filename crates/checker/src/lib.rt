@@ -1,4 +1,6 @@
 // The check of a pack: shape, then the conditions K1 to K6.
+#![tactic(auto)]
+
 ghost use Rattle.std.specs.Prelude.{◌≡◌, [], ◌∷◌};
 ghost use Rattle.pack.specs.Image.{states};
 ghost use Rattle.pack.specs.Laid.{Laid};
@@ -32,8 +34,8 @@ fn answer(number: usize, f: Finding) -> Checked
 // K4 to K6, over the edges.
 fn walk_edges(img: &[u16], from: &[u64; 256], on: &[u64; 256], goes: &[u64; 256]) -> Checked
     requires laid { Laid img.now }
-    requires img_value { shape img.now ≡ Good }
-    requires sources { (Sources img.now (states img.now) from.now) × (Carried img.now (states img.now) on.now) }
+    requires good_shape { shape img.now ≡ Good }
+    requires edge_tables { (Sources img.now (states img.now) from.now) × (Carried img.now (states img.now) on.now) }
     requires goers { Goers img.now (states img.now) goes.now }
     ensures { result ≡ first_failing img.now (c4 ∷ c5 ∷ c6 ∷ []) }
 {
@@ -51,7 +53,7 @@ fn walk_edges(img: &[u16], from: &[u64; 256], on: &[u64; 256], goes: &[u64; 256]
 // K4 to K6: the edges are worked out once.
 fn parser_conditions(img: &[u16]) -> Checked
     requires laid { Laid img.now }
-    requires img_value { shape img.now ≡ Good }
+    requires good_shape { shape img.now ≡ Good }
     ensures { result ≡ first_failing img.now (c4 ∷ c5 ∷ c6 ∷ []) }
 {
     let mut from = [0u64; 256];
@@ -64,7 +66,7 @@ fn parser_conditions(img: &[u16]) -> Checked
 // K1 to K6.
 fn conditions(img: &[u16]) -> Checked
     requires laid { Laid img.now }
-    requires img_value { shape img.now ≡ Good }
+    requires good_shape { shape img.now ≡ Good }
     ensures { result ≡ first_failing img.now plain }
 {
     let f1 = rankcheck::find_k1(img);

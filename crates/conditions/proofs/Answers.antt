@@ -106,7 +106,8 @@ module _ (img : List ℕ) (good : shape img ≡ Good) where
 
 -- A list of conditions that all hold has none that fails first.
 pub not_both : {img : List ℕ} {cs : List Condition} {n a b : ℕ} → AllHold img cs → FirstFails img cs n a b → ⊥
-not_both (more h rest) (this l) = l.fails (h.each _ _ l.first_is l.second-is)
+not_both none x = elim x [ ]
+not_both (more h rest) (this l) = l.fails (h.each _ _ l.first_is l.second_is)
 not_both (more h rest) (later g f) = not_both rest f
 
 -- For any list of conditions: the check gives zeros exactly where shape is good and all of them hold.
@@ -189,8 +190,8 @@ fails_first img e = checked_fails plain img e
 -- The first failing condition and its least places are one: so code 5 is given exactly for them.
 module _ {c : Condition} {img : List ℕ} {a b d e : ℕ} (l : Least c img a b) (m : Least c img d e) where
   same_first : (x y : Bool) → ltb a d ≡ x → ltb d a ≡ y → a ≡ d
-  same_first true y f g = absurd (l.fails (m.rows_before a b (ltb-true a d f) l.second-is))
-  same_first false true f g = absurd (m.fails (l.rows-before d e (ltb-true d a g) m.second_is))
+  same_first true y f g = absurd (l.fails (m.rows_before a b (ltb-true a d f) l.second_is))
+  same_first false true f g = absurd (m.fails (l.rows_before d e (ltb-true d a g) m.second_is))
   same_first false false f g = omega (arith, ltb-false a d f, ltb-false d a g)
 
   same_second : a ≡ d → (x y : Bool) → ltb b e ≡ x → ltb e b ≡ y → b ≡ e
@@ -200,8 +201,8 @@ module _ {c : Condition} {img : List ℕ} {a b d e : ℕ} (l : Least c img a b) 
 
 pub one_first : {img : List ℕ} {cs : List Condition} {n a b m d e : ℕ} → FirstFails img cs n a b → FirstFails img cs m d e → (n ≡ m) × (a ≡ d) × (b ≡ e)
 one_first (this l) (this m) = let z = same_first l m _ _ refl refl in (refl, z, same_second l m z _ _ refl refl)
-one_first (this l) (later h f) = absurd (l.fails (h.each _ _ l.first_is l.second-is))
-one_first (later h f) (this l) = absurd (l.fails (h.each _ _ l.first_is l.second-is))
+one_first (this l) (later h f) = absurd (l.fails (h.each _ _ l.first_is l.second_is))
+one_first (later h f) (this l) = absurd (l.fails (h.each _ _ l.first_is l.second_is))
 one_first (later h f) (later k g) = one_first f g
 
 pub fails_checked : (cs : List Condition) (img : List ℕ) {n a b : ℕ} → shape img ≡ Good → FirstFails img cs n a b → check_all cs img ≡ failed n a b

@@ -15,7 +15,7 @@ use Rattle.shape.proofs.Good.{good_laid}
 use Rattle.conditions.specs.Edges.{Edge, Back, symbols, leads, enters, only_on, reached}
 use Rattle.conditions.specs.Tests.{all_below, implies, same, Decides}
 use Rattle.conditions.specs.Conditions.{K3, K4, K5, K6, Reduces, outranked, k1, within, k2, is_group, settled, k3, k4, reduces, steps, ends, k5, k6, from_start, Subset, matched, Outranked, K1, K2, sought}
-use Rattle.conditions.specs.Check.{Condition, c1, c2, c3, c4, c5, c6, firsts, seconds, Meets, test, later}
+use Rattle.conditions.specs.Check.{Condition, c1, c2, c3, c4, c5, c6, firsts, seconds, Meets, test}
 use Rattle.conditions.proofs.TestLaws.{and_left, and_right, and_both, implies_gives, implies_all, same_is, same_all, all_each, all_true, some_one, some_true, member-has, has-member, some_terminal, terminal_some, subset_is}
 use Rattle.conditions.proofs.EdgeLaws.{edge_from, edge_on, leads_by, leads_is, enters_by, enters_is, only_each, only_is, back_from, reached_back, back_reached}
 

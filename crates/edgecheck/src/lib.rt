@@ -1,4 +1,6 @@
 // K4 and K6, the conditions on the edges into a parse state: their tests, and the search for the first state at which one fails.
+#![tactic(auto)]
+
 ghost use Rattle.std.specs.Prelude.{◌≡◌, true, ◌<◌};
 ghost use Rattle.pack.specs.Image.{states};
 ghost use Rattle.pack.specs.Laid.{Laid};

@@ -1,4 +1,6 @@
 // The edges of the parser's tables, and what else the check works out once for a pack: rows of sets.
+#![tactic(auto)]
+
 ghost use Rattle.std.specs.Prelude.{◌≡◌, ℕ, ◌+◌, ◌<◌, length};
 ghost use Rattle.pack.specs.Image.{nonterminals, states, goto};
 ghost use Rattle.pack.specs.Laid.{Laid};
@@ -46,7 +48,7 @@ fn present(cell: usize, a: usize) -> usize
 // The edges from one state: where they come from, and what is on them.
 fn put_edges(img: &[u16], s: usize, from: &mut [u64; 256], on: &mut [u64; 256])
     requires laid { Laid img.now }
-    requires img_value { shape img.now ≡ Good }
+    requires good_shape { shape img.now ≡ Good }
     requires s_bound { s < states img.now }
     requires from_len { (length from.old ≡ 256) × (length on.old ≡ 256) }
     ensures { (PutOne (edge_to img.now s) s (symbols img.now) from.old from.new) × (PutEach (edge_to img.now s) (symbols img.now) on.old on.new) }
@@ -106,8 +108,8 @@ fn put_gotos(img: &[u16], s: usize, goes: &mut [u64; 256])
 // What is worked out once for a pack, put into empty rows.
 pub fn fill(img: &[u16], from: &mut [u64; 256], on: &mut [u64; 256], goes: &mut [u64; 256])
     requires laid { Laid img.now }
-    requires img_value { shape img.now ≡ Good }
-    requires sources { (Sources img.now 0 from.old) × ((Carried img.now 0 on.old) × (Goers img.now 0 goes.old)) }
+    requires good_shape { shape img.now ≡ Good }
+    requires edge_tables { (Sources img.now 0 from.old) × ((Carried img.now 0 on.old) × (Goers img.now 0 goes.old)) }
     ensures { (Sources img.now (states img.now) from.new) × ((Carried img.now (states img.now) on.new) × (Goers img.now (states img.now) goes.new)) }
 {
     let n = image::states(img);

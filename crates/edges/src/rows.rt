@@ -113,7 +113,7 @@ pub fn next(row: &[u64; 256], v: usize, b: usize) -> usize
 }
 
 // A set by itself: its numbers below 64, and those from 64 on.
-#[derive(Drop)]
+#[derive(Clone, Copy)]
 pub struct Wide {
     pub low: u64,
     pub high: u64,

@@ -1,4 +1,6 @@
 // K3, the condition on groups: its test, and the search for the first parse state and scan state at which it fails.
+#![tactic(auto)]
+
 ghost use Rattle.std.specs.Prelude.{◌≡◌, true, false, ◌<◌};
 ghost use Rattle.sets.specs.Sets.{several};
 ghost use Rattle.pack.specs.Image.{scan_states};
@@ -75,7 +77,7 @@ fn to_look_at(v: u64, n: usize) -> usize
 }
 
 // Where the search of K3 stopped: whether it found a pair, and which.
-#[derive(Drop)]
+#[derive(Clone, Copy)]
 pub struct Pair {
     pub found: bool,
     pub s: usize,

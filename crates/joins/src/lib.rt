@@ -1,4 +1,6 @@
 // Sets of a row, joined: one step along the edges of a pack, from every state of a set at once.
+#![tactic(auto)]
+
 ghost use Rattle.std.specs.Prelude.{◌≡◌, ◌+◌, ◌*◌, ◌<◌, length};
 ghost use Rattle.edges.specs.Rows.{Whole, joined, Made};
 

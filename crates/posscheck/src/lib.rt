@@ -1,4 +1,6 @@
 // K2, the condition on what is possible: its test, and the search for the first scan state at which it fails.
+#![tactic(auto)]
+
 ghost use Rattle.std.specs.Prelude.{◌≡◌, true, false, ◌<◌, ◌≤◌};
 ghost use Rattle.pack.specs.Image.{scan_states};
 ghost use Rattle.pack.specs.Laid.{Laid};
@@ -25,7 +27,7 @@ fn within(img: &[u16], q: usize, code: usize) -> bool
 // K2 of scan state q.
 fn k2(img: &[u16], q: usize) -> bool
     requires laid { Laid img.now }
-    requires img_value { shape img.now ≡ Good }
+    requires good_shape { shape img.now ≡ Good }
     requires q_bound { q < scan_states img.now }
     ensures { result ≡ k2 img.now q }
 {
@@ -48,7 +50,7 @@ fn k2(img: &[u16], q: usize) -> bool
 // The first scan state at which K2 fails.
 pub fn find_k2(img: &[u16]) -> Finding
     requires laid { Laid img.now }
-    requires img_value { shape img.now ≡ Good }
+    requires good_shape { shape img.now ≡ Good }
     ensures { result ≡ find c2 img.now }
 {
     let n = image::scan_states(img);

@@ -1,4 +1,6 @@
 // K1, the condition on what is rejected: its test, and the search for the first scan state at which it fails.
+#![tactic(auto)]
+
 ghost use Rattle.std.specs.Prelude.{◌≡◌, true, false, ◌<◌};
 ghost use Rattle.pack.specs.Image.{terminals, scan_states};
 ghost use Rattle.pack.specs.Laid.{Laid};

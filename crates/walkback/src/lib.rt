@@ -1,4 +1,6 @@
 // The walk back of K5 from a parse state: its rows, step by step, and the tests of a production over them.
+#![tactic(auto)]
+
 ghost use Rattle.std.specs.Prelude.{◌≡◌, true, ◌<◌, ◌≤◌};
 ghost use Rattle.pack.specs.Image.{most_symbols, states, productions, len};
 ghost use Rattle.pack.specs.Laid.{Laid};
@@ -25,7 +27,7 @@ pub fn extend(
 ) -> usize
     requires laid { Laid img.now }
     requires s_bound { (s < states img.now) × ((depth ≤ most_symbols) × (want ≤ most_symbols)) }
-    requires sources { (Sources img.now (states img.now) from.now) × (Carried img.now (states img.now) on.now) }
+    requires edge_tables { (Sources img.now (states img.now) from.now) × (Carried img.now (states img.now) on.now) }
     requires walked { Walked img.now s depth back.old into.old }
     ensures { (Walked img.now s result back.new into.new) × ((want ≤ result) × (result ≤ most_symbols)) }
 {
@@ -49,7 +51,7 @@ fn step_right(
     into: &[u64; 256],
 ) -> bool
     requires laid { Laid img.now }
-    requires img_value { shape img.now ≡ Good }
+    requires good_shape { shape img.now ≡ Good }
     requires p_bound { (p < productions img.now) × (i < len img.now p) }
     requires walked { Walked img.now s (len img.now p) back.now into.now }
     ensures { result ≡ steps img.now s p i }
@@ -63,7 +65,7 @@ fn step_right(
 // Whether every step back is right, the last one asked first.
 pub fn all_steps(img: &[u16], s: usize, p: usize, back: &[u64; 256], into: &[u64; 256]) -> bool
     requires laid { Laid img.now }
-    requires img_value { shape img.now ≡ Good }
+    requires good_shape { shape img.now ≡ Good }
     requires p_bound { p < productions img.now }
     requires walked { Walked img.now s (len img.now p) back.now into.now }
     ensures { result ≡ all_below (len img.now p) (steps img.now s p) }
@@ -89,7 +91,7 @@ pub fn end_right(
     into: &[u64; 256],
 ) -> bool
     requires laid { Laid img.now }
-    requires img_value { shape img.now ≡ Good }
+    requires good_shape { shape img.now ≡ Good }
     requires p_bound { p < productions img.now }
     requires goers { Goers img.now (states img.now) goes.now }
     requires walked { Walked img.now s (len img.now p) back.now into.now }
