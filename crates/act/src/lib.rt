@@ -1,4 +1,6 @@
 // What a cell of the action table asks for.
+#![tactic(auto)]
+
 ghost use Rattle.std.specs.Prelude.{◌≡◌, true, ◌+◌, ◌-◌, ◌<◌, ◌≤◌, get_or};
 ghost use Rattle.numbers.specs.declared.Verdict.TheVariants.{Good};
 ghost use Rattle.pack.specs.Image.{terminals, productions, states, act, action_of};
@@ -66,7 +68,7 @@ fn reduce(
     from: Position,
 ) -> Turned
     requires laid { Laid img.now }
-    requires img_value { shape img.now ≡ Good }
+    requires good_shape { shape img.now ≡ Good }
     requires stacked { Stacked img.now stack.old from.height }
     requires roomy { Roomy room tree.old from.records }
     requires p_bound { p < productions img.now }
@@ -123,7 +125,7 @@ pub fn perform(
     from: Position,
 ) -> Turned
     requires laid { Laid img.now }
-    requires img_value { shape img.now ≡ Good }
+    requires good_shape { shape img.now ≡ Good }
     requires stacked { Stacked img.now stack.old from.height }
     requires roomy { Roomy room tree.old from.records }
     requires terminal_bound { terminal < terminals img.now }

@@ -1,5 +1,7 @@
 // The class of a byte, found from the ranges themselves. They rise, so that the search halves them: one step leaves 32, 16, 8, 4, 2 or 1 of
 // them, and each of the others half of what was left. Laid out, each step has a branch of its own, which the machine learns.
+#![tactic(auto)]
+
 ghost use Rattle.std.specs.Prelude.{◌≡◌, ◌+◌, ◌<◌, ◌≤◌};
 ghost use Rattle.pack.specs.Image.{classes, ranges, class_in, class_of};
 ghost use Rattle.classes.specs.Ready.{Ready, Onward};
@@ -43,7 +45,7 @@ fn in_range(img: &[u16], byte: usize, r: usize) -> usize
 // The class of a byte, sought in so many ranges from a range on: each step leaves half of them.
 fn among(img: &[u16], byte: usize, from: usize, many: usize) -> usize
     requires ready { Ready img.now }
-    requires le_many { (1 ≤ many) × (from + many ≤ ranges img.now) }
+    requires in_ranges { (1 ≤ many) × (from + many ≤ ranges img.now) }
     ensures { result ≡ class_in img.now byte many from }
 {
     let mut r = from;
@@ -59,7 +61,7 @@ fn among(img: &[u16], byte: usize, from: usize, many: usize) -> usize
 // The class of a byte, sought in all n ranges, of which the first step leaves so many.
 fn among_all(img: &[u16], byte: usize, n: usize, left: usize) -> usize
     requires ready { Ready img.now }
-    requires n_value { (n ≡ ranges img.now) × ((left < n) × (n ≤ left + left)) }
+    requires two_halves { (n ≡ ranges img.now) × ((left < n) × (n ≤ left + left)) }
     ensures { result ≡ class_of img.now byte }
 {
     among(img, byte, onward(img, byte, 0, n - left), left)

@@ -17,7 +17,7 @@ use Rattle.pack.specs.Image.{ranges, lo, hi, range_class, class_in, class_of}
 use Rattle.shape.specs.Shape.{shape}
 use Rattle.shape.proofs.Good.{good_range, good_above}
 use Rattle.classes.proofs.Ranges.{ends_below, begins_above, before_ends, behind_begins, one_below, one_holds}
-use Rattle.index.specs.Index.{Begun, Tells, Indexed, base, field}
+use Rattle.index.specs.Index.{Begun, Tells, Indexed, base}
 
 -- Where the next range begins above a byte, or there is none, all behind do.
 module _ (img : List ℕ) (good : shape img ≡ Good) (b r : ℕ) (below : (k : ℕ) → k < r → lo img k ≤ b) where

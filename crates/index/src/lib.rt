@@ -1,5 +1,7 @@
 // An index of the ranges, for a long scan: an entry for every eight bytes, by which it is known without a branch how many ranges begin at a byte or
 // below it. The class of the byte is then read from the last of these.
+#![tactic(auto)]
+
 ghost use Rattle.std.specs.Prelude.{◌≡◌, ℕ, ◌+◌, ◌<◌, ◌≤◌, List};
 ghost use Rattle.pack.specs.Image.{classes, ranges, lo, class_in, class_of};
 ghost use Rattle.classes.specs.Ready.{Ready};

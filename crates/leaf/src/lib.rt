@@ -1,4 +1,6 @@
 // A leaf's bytes.
+#![tactic(auto)]
+
 ghost use Rattle.std.specs.Prelude.{◌≡◌, ◌+◌, ◌≤◌, length};
 ghost use Rattle.leaf.specs.Leaf.{leaf_part, leaf_bytes};
 
@@ -9,7 +11,7 @@ fn wide(x: u16) -> usize
 }
 
 // A part of a text: where it starts, and its length.
-#[derive(Drop)]
+#[derive(Clone, Copy)]
 pub struct Part {
     pub start: usize,
     pub length: usize,

@@ -13,7 +13,7 @@ use Rattle.scan.proofs.Theory.{scan_stops}
 use Rattle.look.specs.declared.Spot.{Spot}
 use Rattle.look.specs.declared.Sought.{Sought}
 use Rattle.look.specs.declared.Looked.{Looked}
-use Rattle.look.specs.Look.{refused, past, seek, rescan, choose, sought_set, piece, is_layout, look_on, look}
+use Rattle.look.specs.Look.{refused, seek, rescan, choose, sought_set, piece, is_layout, look_on, look}
 use Rattle.look.specs.Inner.{Within}
 use Rattle.look.proofs.Laws.{choose_none, choose_some, rescan_spent, rescan_none, rescan_some, piece_spent, piece_none, piece_some}
 

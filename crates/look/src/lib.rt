@@ -1,4 +1,6 @@
 // Layout is skipped and the next token is found: all that the parse knows of the scan. Inner functions: their callers have tested the shape.
+#![tactic(auto)]
+
 ghost use Rattle.std.specs.Prelude.{◌≡◌, ℕ, ◌^◌, ◌<◌};
 ghost use Rattle.numbers.specs.declared.Verdict.TheVariants.{Good};
 ghost use Rattle.pack.specs.Image.{terminals, states};
@@ -13,14 +15,14 @@ use pack::image;
 use token::{least, terminal_of};
 
 // Where the parse stands in the text: the place and the moves made.
-#[derive(Drop)]
+#[derive(Clone, Copy)]
 pub struct Spot {
     pub place: usize,
     pub moves: usize,
 }
 
 // What one scan found, and where the parse then stands.
-#[derive(Drop)]
+#[derive(Clone, Copy)]
 pub struct Sought {
     pub spent: bool,
     pub set: u64,
@@ -29,7 +31,7 @@ pub struct Sought {
 }
 
 // What is found where the parse stands: code 0 and a token, or one of the codes 7, 8, 9 and 13.
-#[derive(Drop)]
+#[derive(Clone, Copy)]
 pub struct Looked {
     pub code: u8,
     pub length: usize,
@@ -72,10 +74,10 @@ fn refused(code: u8, length: usize, terminal: usize, at: Spot) -> Looked
 // The terminal of a match, or code 9.
 fn choose(img: &[u16], set: u64, length: usize, at: Spot) -> Looked
     requires laid { Laid img.now }
-    requires img_value { shape img.now ≡ Good }
-    requires fact { (set ≡ 0 → ⊥) × Terms img.now set }
+    requires good_shape { shape img.now ≡ Good }
+    requires some_terms { (set ≡ 0 → ⊥) × Terms img.now set }
     ensures value { result ≡ choose img.now set length at }
-    ensures at_value { (result.at ≡ at) × ((result.length ≡ length) × (result.terminal < terminals img.now)) }
+    ensures same_spot { (result.at ≡ at) × ((result.length ≡ length) × (result.terminal < terminals img.now)) }
 {
     let t = terminal_of(img, set);
     if t == 0 {
@@ -108,7 +110,7 @@ fn sought_set(img: &[u16], known: &mut [u64; 128], s: usize) -> u64
     requires known { Known img.now known.old }
     requires s_bound { s < states img.now }
     ensures value { result ≡ sought_set img.now s }
-    ensures known_2 { Known img.now known.new }
+    ensures known_after { Known img.now known.new }
 {
     let found = known[s];
     if found != 0 {
@@ -124,7 +126,7 @@ fn piece(img: &[u16], text: &[u8], allowance: usize, v: u64, at: Spot) -> Looked
     requires ready { Ready img.now }
     requires within { Within text.now allowance at }
     requires v_bound { v < 2 ^ terminals img.now }
-    ensures by_index { (s : ℕ) → v ≡ sought_set img.now s → result ≡ piece img.now text.now allowance s at }
+    ensures for_its_state { (s : ℕ) → v ≡ sought_set img.now s → result ≡ piece img.now text.now allowance s at }
     ensures looked_within { LookedWithin img.now text.now allowance result }
 {
     let f = seek(img, text, allowance, v, at);
@@ -163,7 +165,7 @@ pub fn look(
     requires within { Within text.now allowance at }
     ensures value { result ≡ look img.now text.now allowance s at }
     ensures looked_within { LookedWithin img.now text.now allowance result }
-    ensures known_2 { Known img.now known.new }
+    ensures known_after { Known img.now known.new }
 {
     if text.len() <= at.place {
         return refused(numbers::DONE, 0, 0, at);

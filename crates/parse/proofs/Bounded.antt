@@ -3,7 +3,7 @@
 use mathlib.Core.Path.{◌≡◌, refl, ◌∙◌}
 use mathlib.Core.Bool.{Bool, true, false}
 use mathlib.Core.List.{List, ◌++◌}
-use Prim.Native.Nat.{ℕ, zero, suc, ◌+◌, ◌-◌, ◌*◌, ◌/◌, ◌<◌, ◌≤◌}
+use Prim.Native.Nat.{ℕ, zero, suc, ◌+◌, ◌*◌, ◌/◌, ◌<◌, ◌≤◌}
 use native.Mathlib.Omega.{arith}
 use lib.Dec.{eqb, leb, ltb}
 use lib.ListN.{length, drop, length-append}
@@ -12,7 +12,6 @@ use Rattle.numbers.specs.Codes.{done, most_states, query_too_long, wrong_shape, 
 use Rattle.words.specs.declared.Action.{Action}
 use Rattle.words.specs.declared.Action.TheVariants.{Error, Accept, Shift, Reduce}
 use Rattle.pack.specs.Image.{act, action_of, goto, lhs, len}
-use Rattle.numbers.specs.declared.Verdict.{Verdict}
 use Rattle.numbers.specs.declared.Verdict.TheVariants.{Good, Wrong}
 use Rattle.shape.specs.Shape.{shape}
 use Rattle.look.specs.declared.Spot.{Spot}

@@ -1,4 +1,6 @@
 // The parse; a leaf's bytes are passed on.
+#![tactic(auto)]
+
 ghost use Rattle.std.specs.Prelude.{◌≡◌};
 ghost use Rattle.records.specs.Parse.{before, parse, tree_after};
 

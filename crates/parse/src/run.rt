@@ -80,7 +80,7 @@ fn finish(t: Turned) -> Parsed
 }
 
 pub fn run(img: &[u16], text: &[u8], tree: &mut [u16], allowance: u32) -> Parsed
-    requires img_value { shape img.now ≡ Good }
+    requires good_shape { shape img.now ≡ Good }
     requires text_len_bound { length text.now ≤ 65535 }
     ensures value { result ≡ (run img.now (look img.now text.now allowance) (room_of tree.old) start).parsed }
     ensures tree_after { tree.new ≡ tree_after tree.old (run img.now (look img.now text.now allowance) (room_of tree.old) start) }

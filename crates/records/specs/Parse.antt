@@ -57,7 +57,7 @@ pub data Step : Type 0 where
 
 -- One record more, this stack and this spot.
 abbrev pub wrote : List ℕ → List ℕ → Spot → Standing → Standing
-wrote record-words stack at here = record { stack = stack; words = here.words ++ record-words; at = at }
+wrote added stack at here = record { stack = stack; words = here.words ++ added; at = at }
 
 -- Shift: a leaf is written and the state pushed.
 abbrev pub shift_to : ℕ → ℕ → ℕ → Standing → Step

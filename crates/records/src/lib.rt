@@ -1,12 +1,14 @@
 // What the actions of a parse share: where it stands, what a turn comes to, a record into the tree, and the room for it. The definition of
 // the parse is in specs/, and what the actions come to in proofs/.
+#![tactic(auto)]
+
 ghost use Rattle.std.specs.Prelude.{◌≡◌, true, false, ◌+◌, ◌<◌, ◌≤◌, length};
 ghost use Rattle.records.specs.Inner.{full, put4};
 
 use look::Spot;
 
 // What a parse gives beside the records in the lent tree.
-#[derive(Drop)]
+#[derive(Clone, Copy)]
 pub struct Parsed {
     pub code: u8,
     pub place: usize,
@@ -20,7 +22,7 @@ pub struct Parsed {
 pub const RECORD_WORDS: usize = 4;
 
 // Where the parse stands: the height of the stack, the records written, and the spot in the text.
-#[derive(Drop)]
+#[derive(Clone, Copy)]
 pub struct Position {
     pub height: usize,
     pub records: usize,
@@ -28,7 +30,7 @@ pub struct Position {
 }
 
 // What a turn comes to: the end, with code, length and terminal, or where the parse stands after it.
-#[derive(Drop)]
+#[derive(Clone, Copy)]
 pub struct Turned {
     pub ends: bool,
     pub code: u8,

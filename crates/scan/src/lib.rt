@@ -1,4 +1,6 @@
 // One scan, and the scan called by itself.
+#![tactic(auto)]
+
 ghost use Rattle.std.specs.Prelude.{◌≡◌, ◌+◌, ◌<◌, ◌≤◌, min, length};
 ghost use Rattle.sets.specs.Sets.{meet};
 ghost use Rattle.pack.specs.Image.{scan_states, move, acc, rej, class_of, all_but_end};
@@ -14,7 +16,7 @@ use pack::image;
 const LONG: usize = 512;
 
 // What a scan remembers: the terminals matched last and the length of that match; both 0 for none.
-#[derive(Drop)]
+#[derive(Clone, Copy)]
 pub struct Remembered {
     pub set: u64,
     pub length: usize,
@@ -22,7 +24,7 @@ pub struct Remembered {
 
 // Where a scan stops: whether it asked for a move beyond the allowance, what it remembers (nothing where
 // it did), and the moves that it took.
-#[derive(Drop)]
+#[derive(Clone, Copy)]
 pub struct Stop {
     pub spent: bool,
     pub set: u64,
@@ -31,7 +33,7 @@ pub struct Stop {
 }
 
 // What the scan called by itself gives.
-#[derive(Drop)]
+#[derive(Clone, Copy)]
 pub struct Scanned {
     pub code: u8,
     pub place: usize,
@@ -142,8 +144,8 @@ fn long_scan(img: &[u16], v: u64, allowance: usize, bytes: &[u8]) -> Stop
 // After n moves, at the end of the text or of what is scanned without an index: there the scan begins again with one.
 fn beyond(img: &[u16], v: u64, allowance: usize, bytes: &[u8], n: usize, kept: Remembered) -> Stop
     requires { Ready img.now }
-    ensures value { n < length bytes.now → result ≡ scan img.now v allowance bytes.now }
-    ensures value_2 { length bytes.now ≤ n → result ≡ stopped kept n }
+    ensures before_the_end { n < length bytes.now → result ≡ scan img.now v allowance bytes.now }
+    ensures at_the_end { length bytes.now ≤ n → result ≡ stopped kept n }
 {
     if n < bytes.len() {
         return long_scan(img, v, allowance, bytes);

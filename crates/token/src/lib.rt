@@ -1,5 +1,7 @@
 // The terminal of a match: one stands for itself, and several for the chosen terminal of their group. Inner functions: their callers have
 // tested the shape.
+#![tactic(auto)]
+
 ghost use Rattle.std.specs.Prelude.{◌≡◌, ◌<◌, ◌≤◌};
 ghost use Rattle.numbers.specs.declared.Verdict.TheVariants.{Good};
 ghost use Rattle.pack.specs.Image.{terminals};
@@ -22,7 +24,7 @@ pub fn least(img: &[u16], set: u64) -> usize
 // 1 more than the chosen terminal of the group whose set this is, or 0 where there is none.
 fn chosen_of(img: &[u16], set: u64) -> usize
     requires laid { Laid img.now }
-    requires img_value { shape img.now ≡ Good }
+    requires good_shape { shape img.now ≡ Good }
     requires terms { Terms img.now set }
     ensures { (result ≡ chosen_of img.now set) × (result ≤ terminals img.now) }
 {
@@ -40,8 +42,8 @@ fn chosen_of(img: &[u16], set: u64) -> usize
 // 1 more than the terminal that a set stands for, or 0 where it is no group.
 pub fn terminal_of(img: &[u16], set: u64) -> usize
     requires laid { Laid img.now }
-    requires img_value { shape img.now ≡ Good }
-    requires fact { (set ≡ 0 → ⊥) × Terms img.now set }
+    requires good_shape { shape img.now ≡ Good }
+    requires some_terms { (set ≡ 0 → ⊥) × Terms img.now set }
     ensures { (result ≡ terminal_of img.now set) × (result ≤ terminals img.now) }
 {
     if sets::several(set) {
