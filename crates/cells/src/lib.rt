@@ -1,5 +1,7 @@
 // Reading the cells of a row in form 2: what stands behind a place of the text becomes words of an image. A row gives the place behind it,
 // and a place behind the text where it is wrong.
+#![tactic(auto)]
+
 ghost use Rattle.std.specs.Prelude.{◌≡◌, true, [], ◌∷◌, ◌++◌, ◌+◌, ◌<◌, ◌≤◌, length, take, drop};
 ghost use Rattle.pack.specs.Image.{largest_image};
 ghost use Rattle.text.specs.Reader.{read_cells, zeros};

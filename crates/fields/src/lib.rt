@@ -1,4 +1,6 @@
 // Reading a number of a line, at a place of the text, and a byte that stands next.
+#![tactic(auto)]
+
 ghost use Rattle.std.specs.Prelude.{◌≡◌, true, List, [], ◌∷◌, ℕ, ◌+◌, ◌<◌, ◌≤◌, length, drop};
 ghost use Rattle.text.specs.Decimal.{digits_from, read_number};
 ghost use Rattle.text.specs.Reader.{expect};
@@ -81,7 +83,7 @@ pub fn one_digit(text: &[u8], at: usize, next: u8) -> bool
 
 // Whether this byte stands next.
 pub fn stands(text: &[u8], at: usize, next: u8) -> bool
-    ensures by_index { (words : List ℕ) → whether result words (drop (at + 1) text.now) ≡ expect (next ∷ []) words (drop at text.now) }
+    ensures expected { (words : List ℕ) → whether result words (drop (at + 1) text.now) ≡ expect (next ∷ []) words (drop at text.now) }
     ensures at_in_bounds { result ≡ true → at < length text.now }
 {
     if text.len() <= at {

@@ -1,4 +1,6 @@
 // The first line of a pack text, and the form that it tells.
+#![tactic(auto)]
+
 ghost use Rattle.std.specs.Prelude.{◌≡◌, List, ℕ};
 ghost use Rattle.text.specs.Form.{pack_line};
 ghost use Rattle.text.specs.Reader.{expect, form_of};

@@ -1,4 +1,6 @@
 // Reading a set at a place of the text, and its words in the image.
+#![tactic(auto)]
+
 ghost use Rattle.std.specs.Prelude.{◌≡◌, ◌++◌, ◌+◌, ◌*◌, ◌-◌, ◌≤◌, length, take, drop};
 ghost use Rattle.pack.specs.Image.{set_words};
 ghost use Rattle.text.specs.Fields.{hex_digit, read_set, words_of};
@@ -38,7 +40,7 @@ fn join(a: u8, b: u8, c: u8, d: u8) -> u64
 // Four hex digits, each 1 more than its value, as one number.
 fn word_of(a: u64, b: u64, c: u64, d: u64) -> u64
     requires a_bound { (a ≤ 16) × ((b ≤ 16) × ((c ≤ 16) × (d ≤ 16))) }
-    requires le_a { (1 ≤ a) × ((1 ≤ b) × ((1 ≤ c) × (1 ≤ d))) }
+    requires all_digits { (1 ≤ a) × ((1 ≤ b) × ((1 ≤ c) × (1 ≤ d))) }
     ensures { result ≡ (((a - 1) * 16 + (b - 1)) * 16 + (c - 1)) * 16 + (d - 1) }
 {
     (((a - 1) * 16 + (b - 1)) * 16 + (c - 1)) * 16 + (d - 1)

@@ -1,4 +1,6 @@
 // How many bytes the fields, the rows, the lines and the tables of an image have as text, without writing any; and how many words a table has.
+#![tactic(auto)]
+
 ghost use Rattle.std.specs.Prelude.{◌≡◌, true, List, ℕ, ◌+◌, ◌*◌, ◌<◌, ◌≤◌, length};
 ghost use Rattle.pack.specs.Image.{layout_at, largest_image};
 ghost use Rattle.pack.specs.Laid.{Sized};

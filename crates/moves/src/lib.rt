@@ -1,4 +1,6 @@
 // A pack text moved from one form to the other: it is read as an image, and the image is written.
+#![tactic(auto)]
+
 ghost use Rattle.std.specs.Prelude.{◌≡◌, ◌≤◌, length};
 ghost use Rattle.numbers.specs.Codes.{longest_text};
 ghost use Rattle.numbers.specs.Front.{Delivers, buffer_after};

@@ -1,4 +1,6 @@
 // The names that the lines of the tables begin with.
+#![tactic(auto)]
+
 ghost use Rattle.std.specs.Prelude.{◌≡◌, List, ℕ, ◌<◌, ◌≤◌, length, take};
 ghost use Rattle.text.specs.Form.{table_at};
 ghost use Rattle.text.specs.declared.Form.{Form};

@@ -1,4 +1,6 @@
 // Reading one cell of a row in form 2: a cell has the place behind it, and a place behind the text where it is wrong.
+#![tactic(auto)]
+
 ghost use Rattle.std.specs.Prelude.{◌≡◌, Bool, List, [], ◌∷◌, ◌++◌, ℕ, ◌+◌, ◌≤◌, length, drop};
 ghost use Rattle.pack.specs.Image.{largest_image};
 ghost use Rattle.text.specs.Form.{newline, before};
@@ -10,7 +12,7 @@ use fields::{read_number, stands};
 use text::{COLON, COMMA};
 
 // A cell of form 2, and the place behind it, which lies behind the text where none is right.
-#[derive(Drop)]
+#[derive(Clone, Copy)]
 pub struct Cell {
     pub column: usize,
     pub code: u16,
@@ -64,7 +66,7 @@ fn cell_at(text: &[u8], at: usize, least: usize, n: usize) -> Cell
 // The cell that stands next, behind a comma if it is not the first.
 pub fn next_cell(text: &[u8], at: usize, first: bool, least: usize, n: usize) -> Cell
     requires at_in_bounds { (at ≤ length text.now) × ((least ≤ n) × (n ≤ largest_image)) }
-    requires by_index { (w : List ℕ) → expect (newline ∷ []) w (drop at text.now) ≡ wrong }
+    requires no_newline { (w : List ℕ) → expect (newline ∷ []) w (drop at text.now) ≡ wrong }
     ensures { NextCell first (drop at text.now) text.now least n result }
 {
     if first {

@@ -1,4 +1,6 @@
 // Writing the cells of a row in form 2: those that are not 0, each as column:code.
+#![tactic(auto)]
+
 ghost use Rattle.std.specs.Prelude.{◌≡◌, true, ◌+◌, ◌<◌, ◌≤◌};
 ghost use Rattle.pack.specs.Image.{largest_image};
 ghost use Rattle.text.specs.Form.{before};

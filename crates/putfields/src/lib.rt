@@ -1,5 +1,7 @@
 // Writing the fields of a line: each part is written from a place of the buffer on, where there is room for it, and gives the place after
 // it.
+#![tactic(auto)]
+
 ghost use Rattle.std.specs.Prelude.{◌≡◌, [], ◌∷◌, ◌+◌, ◌*◌, ◌<◌, ◌≤◌, length, get_or};
 ghost use Rattle.text.specs.Decimal.{decimal};
 ghost use Rattle.text.specs.Fields.{hex_of, hex_word, field_text, width_of};

@@ -1,4 +1,6 @@
 // Writing the rows, the lines and the tables of an image, as the fields are written.
+#![tactic(auto)]
+
 ghost use Rattle.std.specs.Prelude.{◌++◌, ◌+◌, ◌*◌, ◌<◌, ◌≤◌, length};
 ghost use Rattle.pack.specs.Image.{layout_at, largest_image};
 ghost use Rattle.pack.specs.Laid.{Sized};

@@ -1,4 +1,6 @@
 // Pack text to image.
+#![tactic(auto)]
+
 ghost use Rattle.std.specs.Prelude.{◌≡◌, true, [], ◌≤◌, length};
 ghost use Rattle.numbers.specs.Front.{deliver, Delivers, buffer_after};
 ghost use Rattle.pack.specs.Image.{needed};

@@ -1,4 +1,6 @@
 // Reading the lines of a table into an image, one after the other, and the end of the text.
+#![tactic(auto)]
+
 ghost use Rattle.std.specs.Prelude.{List, ℕ, ◌+◌, ◌*◌, ◌≤◌, length};
 ghost use Rattle.pack.specs.Image.{largest_image};
 ghost use Rattle.text.specs.Form.{row_width};
@@ -9,7 +11,7 @@ use rows::read_line;
 use text::Row;
 
 // How far the reader is between two lines: whether all was right so far, the place in the text, and the words of the image so far.
-#[derive(Drop)]
+#[derive(Clone, Copy)]
 pub struct Cursor {
     pub ok: bool,
     pub at: usize,

@@ -1,4 +1,6 @@
 // The list of tables, for the reader and the writer: what stands on each line of a table, how many there are, and how many words a line has.
+#![tactic(auto)]
+
 ghost use Rattle.std.specs.Prelude.{◌≡◌, ◌<◌, ◌≤◌, length};
 ghost use Rattle.pack.specs.Image.{largest_image};
 ghost use Rattle.text.specs.Form.{after, cells_in, row_width, table_at};

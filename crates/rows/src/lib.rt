@@ -1,5 +1,7 @@
 // Reading a line of a text, part by part: what stands behind a place of the text becomes words of an image. Each part of a line gives
 // the place behind it, and a place behind the text where it is wrong.
+#![tactic(auto)]
+
 ghost use Rattle.std.specs.Prelude.{List, [], ◌∷◌, ◌++◌, ℕ, ◌+◌, ◌*◌, ◌-◌, ◌<◌, ◌≤◌, length, take, drop};
 ghost use Rattle.pack.specs.Image.{group_words, largest_image, most_symbols, production_words, set_words};
 ghost use Rattle.text.specs.Form.{newline, row_width};

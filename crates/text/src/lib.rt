@@ -1,21 +1,22 @@
 // The text forms of a pack: what its definitions speak of.
+#![tactic(auto)]
 
 // A field is a number or a set.
-#[derive(Drop)]
+#[derive(Clone, Copy)]
 pub enum Kind {
     Number,
     Set,
 }
 
 // The form of a pack text. Form 1 has all cells of act, goto and move, and form 2 those that are not 0.
-#[derive(Drop)]
+#[derive(Clone, Copy)]
 pub enum Form {
     One,
     Two,
 }
 
 // What stands behind the `=` of a line: so many numbers, those of so many numbers that are not 0, so many sets, a production, or a group.
-#[derive(Drop)]
+#[derive(Clone, Copy)]
 pub enum Row {
     Numbers(usize),
     Cells(usize),
@@ -25,7 +26,7 @@ pub enum Row {
 }
 
 // The value of a field and the bytes that it takes; 0 bytes where none stands there.
-#[derive(Drop)]
+#[derive(Clone, Copy)]
 pub struct Field {
     pub value: u64,
     pub used: usize,

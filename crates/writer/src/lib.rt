@@ -1,4 +1,6 @@
 // Image to pack text, in one form or the other.
+#![tactic(auto)]
+
 ghost use Rattle.std.specs.Prelude.{◌≡◌, length};
 ghost use Rattle.numbers.specs.Front.{Delivers, buffer_after};
 ghost use Rattle.pack.specs.Laid.{Sized};
