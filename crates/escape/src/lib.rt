@@ -1,4 +1,6 @@
 // The bytes of a leaf as they are printed: which of them get a backslash, and how many there are then.
+#![tactic(auto)]
+
 ghost use Rattle.std.specs.Prelude.{◌≡◌, true, ◌+◌, ◌<◌, length};
 ghost use Rattle.print.specs.Print.{special, escaped_byte, escaped};
 

@@ -1,4 +1,6 @@
 // Whether the records are one whole tree, how deep it is, and the size of its printout.
+#![tactic(auto)]
+
 ghost use Rattle.std.specs.Prelude.{◌≡◌, true, false, List, ℕ, ◌+◌, ◌*◌, ◌<◌, ◌≤◌, length, get_or};
 ghost use Rattle.text.specs.Decimal.{decimal};
 ghost use Rattle.print.specs.Print.{show, show_each, depth, depths, standing, nothing};
@@ -100,7 +102,7 @@ fn with_leaf(text: &[u8], tree: &[u16], n: usize, size: usize) -> usize
 }
 
 // What is measured of trees: whether they are too deep; and if not, how many records are before them, and the size so far with them.
-#[derive(Drop)]
+#[derive(Clone, Copy)]
 pub struct Measured {
     pub deep: bool,
     pub left: usize,
@@ -143,7 +145,7 @@ fn measure_children(
     size: usize,
 ) -> Measured
     requires sound { Sound text.now tree.now n }
-    requires k_value { (last_of text.now tree.now n k).enough ≡ true }
+    requires enough_trees { (last_of text.now tree.now n k).enough ≡ true }
     ensures { Measures text.now tree.now n levels size (show_each (last_of text.now tree.now n k).children) (depths (last_of text.now tree.now n k).children) (last_of text.now tree.now n k).rest result }
 {
     let mut left = n;

@@ -10,7 +10,7 @@ use borrow.Author.Tests.{eq-eqb, ne_eqb, lt-ltb, le-ltb, eqb-true, eqb-false, lt
 use Rattle.pack.specs.Image.{first_nonterminal}
 use Rattle.parse.specs.Leaf.{leaf_bytes}
 use Rattle.parse.specs.Parse.{record_words}
-use Rattle.print.specs.Print.{leaf, node, none, more, Standing, wrong, take_off, one_more, standing}
+use Rattle.print.specs.Print.{leaf, node, none, Standing, wrong, take_off, one_more, standing}
 
 pub false-true : false ≡ true → ⊥
 false-true e = let z : ◌≡◌ {A = ℕ} 0 1 = cc in absurd (omega arith)

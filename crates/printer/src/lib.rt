@@ -1,4 +1,6 @@
 // Prints the derivation that the records of a tree stand for.
+#![tactic(auto)]
+
 ghost use Rattle.std.specs.Prelude.{◌≡◌, length};
 ghost use Rattle.numbers.specs.Front.{buffer_after};
 ghost use Rattle.print.specs.Print.{print};

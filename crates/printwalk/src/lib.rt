@@ -1,4 +1,6 @@
 // A node prints its children, and each child prints itself: from the last record backwards, and from the end of the printout.
+#![tactic(auto)]
+
 mod put; // put.rt: bytes and numbers, each in front of what was written before
 
 ghost use Rattle.std.specs.Prelude.{◌≡◌, true, ◌+◌};
@@ -10,7 +12,7 @@ use measure::{RECORD_WORDS, word};
 use put::{put, put_leaf, put_number};
 
 // How many records are left, and the place where what was printed begins.
-#[derive(Drop)]
+#[derive(Clone, Copy)]
 pub struct Cursor {
     pub left: usize,
     pub at: usize,
@@ -49,7 +51,7 @@ fn print_children(
     to: usize,
 ) -> Cursor
     requires sound { Sound text.now tree.now n }
-    requires k_value { (last_of text.now tree.now n k).enough ≡ true }
+    requires enough_trees { (last_of text.now tree.now n k).enough ≡ true }
     requires room { Room (show_each (last_of text.now tree.now n k).children) out.old to }
     ensures { Prints text.now tree.now n (show_each (last_of text.now tree.now n k).children) (last_of text.now tree.now n k).rest out.old to out.new result }
 {

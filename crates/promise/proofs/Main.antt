@@ -252,9 +252,9 @@ module _ (img : List ℕ) (passes : Passes img) (text : List ℕ) where
       → RightLeaf img text terminal at.place size state → Reads terminal at.place size (looks state at)
   leaf_read = Together.leaf_read img passes text
 
-  pub leaf_derived : {terminal begin size state : ℕ} {below words All-words : List ℕ} (v : ℕ) → Way img text (reached (state ∷ below) words begin)
-      → RightLeaf img text terminal begin size state → act img state terminal ≡ 2 + 2 * v → Accepted img text All-words
-      → (rest : List ℕ) × (All-words ≡ (words ++ leaf_record terminal begin size state) ++ rest)
+  pub leaf_derived : {terminal begin size state : ℕ} {below words all_words : List ℕ} (v : ℕ) → Way img text (reached (state ∷ below) words begin)
+      → RightLeaf img text terminal begin size state → act img state terminal ≡ 2 + 2 * v → Accepted img text all_words
+      → (rest : List ℕ) × (all_words ≡ (words ++ leaf_record terminal begin size state) ++ rest)
   leaf_derived = Together.leaf_derived img passes text
 
   pub leaf_kept : {terminal begin size state : ℕ} {below words : List ℕ} (v : ℕ) → Way img text (reached (state ∷ below) words begin)

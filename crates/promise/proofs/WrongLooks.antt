@@ -7,7 +7,7 @@ use mathlib.Core.List.{List, []}
 use Prim.Native.Nat.{ℕ, zero, suc, ◌<◌, ◌≤◌}
 use native.Mathlib.Omega.{arith}
 use lib.Count.{count_trailing_zeros}
-use lib.ListN.{length, drop, take}
+use lib.ListN.{drop, take}
 use Rattle.sets.specs.Sets.{has, meet, member, lacks, is_empty, subset, count_below, several}
 use Rattle.numbers.specs.Codes.{done, no_terminal, unexpected}
 use Rattle.pack.specs.Image.{set_at, least_size, greatest_size, layout, dom, lhs, len, symbol, act, goto, move, action_of, lo, hi, range_class, acc, rej, poss, group_set, chosen, class_in, valid_from}

@@ -1,0 +1,4 @@
+use Rattle.measure.proofs.+with_number.Given as goal
+
+abbrev pub decreases-with_number : goal.decreases-with_number
+decreases-with_number l = l.n
