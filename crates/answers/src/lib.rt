@@ -1,5 +1,7 @@
 // What each function answers, as numbers at the front of a lent row: the way that the functions for C give it back. Where the row has no
 // room for them nothing is written there, and 0 is told.
+#![tactic(auto)]
+
 ghost use Rattle.std.specs.Prelude.{◌≡◌, [], ◌∷◌};
 ghost use Rattle.answers.specs.Numbers.{told, written, of_shape, of_scan, of_answer, of_check, of_parse, of_part, part_of};
 

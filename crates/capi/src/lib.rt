@@ -1,6 +1,8 @@
 // The entry points for C: include/zhgarelli.h declares them. A slice is a pointer and a length; the numbers given back go to the front of
 // `out`, in the order that each function names, and it answers how many they are. Where `out` has no room for them nothing is written
 // there, and the answer is 0.
+#![tactic(auto)]
+
 ghost use Rattle.std.specs.Prelude.{◌≡◌, length};
 ghost use Rattle.shape.specs.Shape.{shape};
 ghost use Rattle.conditions.specs.Check.{check};
