@@ -57,10 +57,7 @@ fn built() -> Result<PathBuf, String> {
             "{VARIABLE} is not set, and the Rattle kit is not here to build the proved library."
         ));
     }
-    println!(
-        "cargo:rerun-if-changed={}",
-        repository.join("crates").display()
-    );
+    watch(&repository);
     let made = Command::new(tool)
         .arg("capi")
         .output()
@@ -73,6 +70,20 @@ fn built() -> Result<PathBuf, String> {
             "tools/native-lib capi failed:\n{}",
             String::from_utf8_lossy(&lines)
         ))
+    }
+}
+
+/// Has cargo look at the sources again, and not at what the kit makes of them, which lies beside them.
+fn watch(repository: &Path) {
+    let crates = fs::read_dir(repository.join("crates"));
+    let parts = crates
+        .into_iter()
+        .flatten()
+        .flatten()
+        .flat_map(|folder| ["src", "specs", "proofs"].map(|part| folder.path().join(part)));
+    let list = repository.join("crates.txt");
+    for path in parts.filter(|part| part.is_dir()).chain([list]) {
+        println!("cargo:rerun-if-changed={}", path.display());
     }
 }
 
