@@ -46,6 +46,11 @@ module _ (first : Bool) (column code : ℕ) where
       go zero e = absurd (z e)
       go (suc k) e = simp append_assoc
 
+  -- Room for a cell is room for its parts, one after the other.
+  pub parts_room : {out : List ℕ} {at : ℕ} → (code ≡ 0 → ⊥) → Room (cell_text first column code) out at
+      → Room (before first ++ (decimal column ++ ((colon ∷ []) ++ decimal code))) out at
+  parts_room z room = room_as _ (cell_some z) room
+
 -- ---- the columns that are left
 abbrev pub cells_left : Bool → ℕ → ℕ → List ℕ → ℕ → List ℕ
 cells_left first n column img i = cells_text first (n - column) column img (i + column)

@@ -1,31 +1,24 @@
 -- `putcells::write_cell` meets its contract.
-use mathlib.Core.List.{[], ◌∷◌, ◌++◌}
-use Rattle.text.specs.Decimal.{decimal}
-use Rattle.putfields.specs.Steps.{Room}
-use Rattle.text.specs.Form.{colon, before}
-use Rattle.putfields.proofs.WriteLaws.{wrote_none, wrote_as, wrote_two, room_as, room_front, room_rest}
-use Rattle.putcells.proofs.CellLaws.{cell_none, cell_some}
+use Rattle.putfields.proofs.WriteLaws.{wrote_none, wrote_as, wrote_two, room_front, room_rest}
+use Rattle.putcells.proofs.CellLaws.{cell_none, parts_room, cell_some}
 use Rattle.putcells.proofs.write_cell.Goals as goal
 
 pub write_comma-a-requires : goal.write_comma-a-requires
-write_comma-a-requires c =
-    let all : Room (before c.args.first ++ (decimal c.args.column ++ ((colon ∷ []) ++ decimal c.args.code))) c.args.out.now c.args.at = room_as _ (cell_some _ _ _ c.if-code-ne0.true) c.requires.1.1 in
-    room_front _ _ (all)
+write_comma-a-requires c = room_front _ _ (parts_room _ _ _ c.if-code-ne0.true c.requires.1.1)
 
 pub write_decimal-b-requires : goal.write_decimal-b-requires
 write_decimal-b-requires c =
-    let all : Room (before c.args.first ++ (decimal c.args.column ++ ((colon ∷ []) ++ decimal c.args.code))) c.args.out.now c.args.at = room_as _ (cell_some _ _ _ c.if-code-ne0.true) c.requires.1.1 in
-    (c.requires.0, room_front _ _ (room_rest _ _ (all) c.write_comma-a.ensures))
+    (c.requires.0, room_front _ _ (room_rest _ _ (parts_room _ _ _ c.if-code-ne0.true c.requires.1.1) c.write_comma-a.ensures))
 
 pub put-c-requires : goal.put-c-requires
 put-c-requires c =
-    let all : Room (before c.args.first ++ (decimal c.args.column ++ ((colon ∷ []) ++ decimal c.args.code))) c.args.out.now c.args.at = room_as _ (cell_some _ _ _ c.if-code-ne0.true) c.requires.1.1 in
-    room_front _ _ (room_rest _ _ (room_rest _ _ (all) c.write_comma-a.ensures) c.write_decimal-b.ensures)
+    room_front _ _ (room_rest _ _ (room_rest _ _ (parts_room _ _ _ c.if-code-ne0.true c.requires.1.1) c.write_comma-a.ensures) c.write_decimal-b.ensures)
 
 pub write_decimal-requires : goal.write_decimal-requires
-write_decimal-requires c =
-    let all : Room (before c.args.first ++ (decimal c.args.column ++ ((colon ∷ []) ++ decimal c.args.code))) c.args.out.now c.args.at = room_as _ (cell_some _ _ _ c.if-code-ne0.true) c.requires.1.1 in
-    (c.requires.1.0, room_rest _ _ (room_rest _ _ (room_rest _ _ (all) c.write_comma-a.ensures) c.write_decimal-b.ensures) c.put-c.ensures)
+write_decimal-requires c = (
+  c.requires.1.0,
+  room_rest _ _ (room_rest _ _ (room_rest _ _ (parts_room _ _ _ c.if-code-ne0.true c.requires.1.1) c.write_comma-a.ensures) c.write_decimal-b.ensures) c.put-c.ensures,
+)
 
 pub returns-then-code-ne0 : goal.returns-then-code-ne0
 returns-then-code-ne0 c =
