@@ -8,7 +8,7 @@ use std::io::Read;
 use std::rt::{Env, Files};
 use std::{fs, io};
 
-// The bytes of the longest path.
+// Room for the longest path.
 const LONGEST_PATH: usize = 4096;
 
 // The smaller of the two.
