@@ -14,6 +14,7 @@ pub enum Action {
 }
 
 // What an action code asks for: 0 error, 1 accept, 2+2s shift to s, 3+2p reduce by p.
+#[tactic(auto, unfolding(crate::specs::Image::action_of))]
 pub fn action_of(code: usize) -> Action
     ensures { result ≡ action_of code }
 {
@@ -95,17 +96,11 @@ pub const BYTE_COUNT: usize = 256;
 
 pub const GREATEST_BYTE: usize = BYTE_COUNT - 1;
 
-fn wide(x: u16) -> usize
-    ensures { result ≡ x }
-{
-    x as usize
-}
-
 // Four words, lowest first, as one set.
 fn join(a: u16, b: u16, c: u16, d: u16) -> u64
     ensures { result ≡ a + b * 65536 + c * 4294967296 + d * 281474976710656 }
 {
-    (a as u64) + (b as u64) * 65536 + (c as u64) * 4294967296 + (d as u64) * 281474976710656
+    u64::from(a) + u64::from(b) * 65536 + u64::from(c) * 4294967296 + u64::from(d) * 281474976710656
 }
 
 // The word at a place.
@@ -113,10 +108,11 @@ pub fn word_at(img: &[u16], i: usize) -> usize
     requires { i < length img.now }
     ensures { result ≡ word img.now i }
 {
-    wide(img[i])
+    usize::from(img[i])
 }
 
 // The set whose first word stands at a place.
+#[tactic(auto, unfolding(crate::specs::Image::set_at))]
 pub fn set_at(img: &[u16], i: usize) -> u64
     requires { i + set_words ≤ length img.now }
     ensures { result ≡ set_at img.now i }
@@ -125,6 +121,7 @@ pub fn set_at(img: &[u16], i: usize) -> u64
 }
 
 // The least and the most of the size at word i.
+#[tactic(auto, unfolding(crate::specs::Image::least_size))]
 pub fn least_size(i: usize) -> usize
     requires { i < head_words }
     ensures { result ≡ least_size i }
@@ -132,6 +129,7 @@ pub fn least_size(i: usize) -> usize
     LEAST_SIZES[i]
 }
 
+#[tactic(auto, unfolding(crate::specs::Image::greatest_size))]
 pub fn greatest_size(i: usize) -> usize
     requires { i < head_words }
     ensures { result ≡ greatest_size i }
