@@ -3,7 +3,7 @@
 // take many words at once.
 #![tactic(auto)]
 
-ghost use Rattle.std.specs.Prelude.{◌≡◌, true, false, ℕ, ◌+◌, ◌-◌, ◌*◌, ◌%◌, ◌<◌, ◌≤◌, min, max, length};
+ghost use Rattle.std.specs.Prelude.{◌≡◌, true, false, ℕ, ◌+◌, ◌-◌, ◌*◌, ◌%◌, ◌<◌, ◌≤◌, length};
 ghost use Rattle.sets.specs.Sets.{member, several};
 ghost use Rattle.numbers.specs.declared.Verdict.TheVariants.{Good};
 ghost use Rattle.order.specs.declared.Ruled.TheVariants.{Dom, Act, Scan};
@@ -15,37 +15,24 @@ ghost use Rattle.order.specs.Shape.{each};
 
 use pack::image;
 
-// By how much a word is above a limit.
-fn excess(word: u16, most: u16) -> u16
-    ensures { result ≡ word - most }
-{
-    if most < word {
-        return word - most;
-    }
-    0
-}
-
 // No word is above the limit by more.
+#[tactic(auto, using(sets::proofs::Laws::or_left, sets::proofs::Laws::or_right))]
 pub fn over(words: &[u16], most: u16) -> u16
     ensures { Above words.now (most + result) }
 {
     let mut all: u16 = 0;
-    let mut i: usize = 0;
-    while i < words.len() {
-        all = all | excess(words[i], most);
-        i += 1;
+    for word in words {
+        all |= word.saturating_sub(most);
     }
     all
 }
 
 // 1 where an action code accepts.
+#[tactic(auto, unfolding(order::specs::Quick::accept))]
 fn accept(code: u16) -> u16
     ensures { (result ≡ accept code) × (result ≤ 1) }
 {
-    if code == 1 {
-        return 1;
-    }
-    0
+    u16::from(code == 1)
 }
 
 // What a pass over action codes tells of them: none is above the greater limit by more than `over`, all are above the lower one by an even number
@@ -57,25 +44,23 @@ struct Tally {
     accepts: u16,
 }
 
+#[tactic(auto, using(sets::proofs::Laws::or_left, sets::proofs::Laws::or_right, order::proofs::Sound::or_even, order::proofs::Sums::sum_on), unfolding(order::specs::Quick::sum))]
 fn codes(words: &[u16], low: u16, most: u16) -> Tally
     requires { length words.now < 65536 }
     ensures { Codes words.now low most result.apart result.over result.accepts }
 {
     let mut apart: u16 = 0;
     let mut over: u16 = 0;
-    let mut n: u16 = 0;
-    let mut i: usize = 0;
-    while i < words.len() {
-        let code = words[i];
-        apart = apart | excess(code, low);
-        over = over | excess(code, most);
-        n += accept(code);
-        i += 1;
+    let mut accepts: u16 = 0;
+    for code in words {
+        apart |= code.saturating_sub(low);
+        over |= code.saturating_sub(most);
+        accepts += accept(*code);
     }
     Tally {
-        apart: apart,
-        over: over,
-        accepts: n,
+        apart,
+        over,
+        accepts,
     }
 }
 
@@ -83,27 +68,23 @@ fn codes(words: &[u16], low: u16, most: u16) -> Tally
 fn is_shift(code: u16) -> bool
     ensures { result ≡ false → code % 2 ≡ 0 → code ≡ 0 }
 {
-    if code % 2 == 0 {
-        return 0 < code;
-    }
-    false
+    code % 2 == 0 && 0 < code
 }
 
 // Whether column 0 has no shift in some rows, and so many accepts.
+#[tactic(auto, using(order::proofs::Sound::code_at, order::proofs::Sums::sum_on), unfolding(order::specs::Quick::sum))]
 fn first_column(img: &[u16], from: usize, rows: usize, most: u16) -> bool
     requires laid { Laid img.now }
     requires rows_bound { from + rows ≤ states img.now }
     ensures { result ≡ true → First img.now from rows most }
 {
     let mut n: u16 = 0;
-    let mut s: usize = 0;
-    while s < rows {
+    for s in 0..rows {
         let code = img[image::act_at(img, from + s, 0)];
         if is_shift(code) {
             return false;
         }
         n += accept(code);
-        s += 1;
     }
     most <= n
 }
@@ -114,11 +95,8 @@ fn empty_column(img: &[u16], from: usize, rows: usize, t: usize) -> bool
     requires rows_bound { (from + rows ≤ states img.now) × (t < terminals img.now) }
     ensures { result ≡ true → (s : ℕ) → s < rows → act img.now (from + s) t ≡ 0 }
 {
-    let mut s: usize = 0;
-    while s < rows {
-        if image::act(img, from + s, t) == 0 {
-            s += 1;
-        } else {
+    for s in 0..rows {
+        if image::act(img, from + s, t) != 0 {
             return false;
         }
     }
@@ -131,16 +109,16 @@ fn right_column(img: &[u16], from: usize, rows: usize, set: u64, t: usize) -> bo
     requires rows_bound { (from + rows ≤ states img.now) × (t < terminals img.now) }
     ensures { result ≡ true → member set t ≡ true → (s : ℕ) → s < rows → act img.now (from + s) t ≡ 0 }
 {
-    if sets::member(set, t) {
-        return empty_column(img, from, rows, t);
-    }
-    true
+    !sets::member(set, t) || empty_column(img, from, rows, t)
 }
 
 // Whether each layout column has errors only in some rows, where there is one or none.
+#[tactic(auto, using(order::proofs::Sound::only_lowest))]
 fn only_column(img: &[u16], from: usize, rows: usize, set: u64) -> bool
     requires laid { Laid img.now }
-    requires rows_bound { (from + rows ≤ states img.now) × (set ≡ layout img.now) × (several set ≡ false) }
+    requires rows_bound { from + rows ≤ states img.now }
+    requires layout_set { set ≡ layout img.now }
+    requires one_or_none { several set ≡ false }
     ensures { result ≡ true → Shut img.now from rows }
 {
     let t = sets::lowest(set) as usize;
@@ -157,12 +135,8 @@ fn every_column(img: &[u16], from: usize, rows: usize) -> bool
     ensures { result ≡ true → Shut img.now from rows }
 {
     let set = image::layout(img);
-    let width = image::terminals(img);
-    let mut t: usize = 0;
-    while t < width {
-        if right_column(img, from, rows, set, t) {
-            t += 1;
-        } else {
+    for t in 0..image::terminals(img) {
+        if !right_column(img, from, rows, set, t) {
             return false;
         }
     }
@@ -191,20 +165,9 @@ fn row_start(img: &[u16], s: usize) -> usize
     image::act_start(img) + s * image::terminals(img)
 }
 
-fn lesser(a: u16, b: u16) -> u16
-    ensures { result ≡ min a b }
-{
-    if a < b { a } else { b }
-}
-
-fn larger(a: u16, b: u16) -> u16
-    ensures { result ≡ max a b }
-{
-    if a < b { b } else { a }
-}
-
 // Whether every action code is right in some rows, the first of which is given. Up to the lesser of the greatest shift and the greatest reduction
 // both kinds are right; above it every second code is, up to the greater one. The accepts are those of column 0 where there are no more.
+#[tactic(auto, using(order::proofs::Sound::acts_good))]
 pub fn acts(img: &[u16], from: usize, rows: usize) -> bool
     requires laid { Laid img.now }
     requires rows_bound { from + rows ≤ states img.now }
@@ -212,38 +175,32 @@ pub fn acts(img: &[u16], from: usize, rows: usize) -> bool
 {
     let shifts = (image::states(img) * 2) as u16;
     let reductions = (image::productions(img) * 2 + 1) as u16;
-    let low = lesser(shifts, reductions) + 1;
-    let most = larger(shifts, reductions);
+    let low = shifts.min(reductions) + 1;
+    let most = shifts.max(reductions);
     let start = row_start(img, from);
     let end = row_start(img, from + rows);
     let all = codes(&img[start..end], low, most);
-    if all.over != 0 {
-        return false;
-    }
-    if all.apart % 2 != 0 {
-        return false;
-    }
-    if first_column(img, from, rows, all.accepts) {
-        return layout_columns(img, from, rows);
-    }
-    false
+    all.over == 0
+        && all.apart % 2 == 0
+        && first_column(img, from, rows, all.accepts)
+        && layout_columns(img, from, rows)
 }
 
 // What is in some of n sets, the first at a place.
+#[tactic(auto, using(order::proofs::Sound::part_more, order::proofs::Sound::part_last))]
 fn union(img: &[u16], start: usize, n: usize) -> u64
     requires { start + n * set_words ≤ length img.now }
     ensures { Parts img.now start n result }
 {
     let mut all: u64 = 0;
-    let mut k: usize = 0;
-    while k < n {
-        all = all | image::set_at(img, start + k * image::SET_WORDS);
-        k += 1;
+    for k in 0..n {
+        all |= image::set_at(img, start + k * image::SET_WORDS);
     }
     all
 }
 
 // Whether a terminal is in a set: it is not asked whether it can be.
+#[tactic(auto, unfolding(sets::specs::Sets::member, sets::specs::Sets::has))]
 fn in_set(set: u64, t: usize) -> bool
     requires { t < 64 }
     ensures { result ≡ member set t }
@@ -256,28 +213,23 @@ fn none_itself(img: &[u16]) -> bool
     requires { Laid img.now }
     ensures { result ≡ true → (t : ℕ) → t < terminals img.now → member (dom img.now t) t ≡ false }
 {
-    let n = image::terminals(img);
-    let mut t: usize = 0;
-    while t < n {
+    for t in 0..image::terminals(img) {
         if in_set(image::dom(img, t), t) {
             return false;
         }
-        t += 1;
     }
     true
 }
 
 // Whether every set of terminals that outrank another is right.
+#[tactic(auto, using(order::proofs::Sound::doms_good))]
 pub fn doms(img: &[u16]) -> bool
     requires { Laid img.now }
     ensures { result ≡ true → each (row_rule img.now Dom) (terminals img.now) 0 ≡ Good }
 {
-    if rules::fits(img, union(img, image::DOM_START, image::terminals(img))) {
-        if image::dom(img, 0) == 0 {
-            return none_itself(img);
-        }
-    }
-    false
+    rules::fits(img, union(img, image::DOM_START, image::terminals(img)))
+        && image::dom(img, 0) == 0
+        && none_itself(img)
 }
 
 // Whether no scan state accepts what it rejects.
@@ -285,12 +237,8 @@ fn all_apart(img: &[u16]) -> bool
     requires { Laid img.now }
     ensures { result ≡ true → Apart img.now }
 {
-    let n = image::scan_states(img);
-    let mut q: usize = 0;
-    while q < n {
-        if image::acc(img, q) & image::rej(img, q) == 0 {
-            q += 1;
-        } else {
+    for q in 0..image::scan_states(img) {
+        if image::acc(img, q) & image::rej(img, q) != 0 {
             return false;
         }
     }
@@ -298,17 +246,11 @@ fn all_apart(img: &[u16]) -> bool
 }
 
 // Whether the sets of every scan state are right.
+#[tactic(auto, using(sets::proofs::Laws::or_empty, order::proofs::Sound::scans_good))]
 pub fn scans(img: &[u16]) -> bool
     requires { Laid img.now }
     ensures { result ≡ true → each (row_rule img.now Scan) (scan_states img.now) 0 ≡ Good }
 {
-    if rules::fits(
-        img,
-        union(img, image::scan_start(img), 3 * image::scan_states(img)),
-    ) {
-        if image::acc(img, 0) | image::rej(img, 0) == 0 {
-            return all_apart(img);
-        }
-    }
-    false
+    let all = union(img, image::scan_start(img), 3 * image::scan_states(img));
+    rules::fits(img, all) && image::acc(img, 0) | image::rej(img, 0) == 0 && all_apart(img)
 }

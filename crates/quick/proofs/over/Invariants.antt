@@ -1,9 +1,5 @@
-use Prim.Native.Nat.{ℕ, ◌+◌, ◌<◌, ◌≤◌, ◌-◌}
-use lib.ListN.{length, get_or}
+use Rattle.std.proofs.Common.{ℕ, ◌+◌, ◌<◌, ◌≤◌, get_or}
 use Rattle.quick.proofs.over.Given as goal
 
-abbrev pub invariant-loop-i : goal.invariant-loop-i
-invariant-loop-i l = (l.i ≤ length l.words) × ((j : ℕ) → j < l.i → get_or l.words j 0 ≤ l.most + l.all)
-
-abbrev pub decreases-loop-i : goal.decreases-loop-i
-decreases-loop-i l = length l.words - l.i
+abbrev pub invariant-loop-word : goal.invariant-loop-word
+invariant-loop-word l = (j : ℕ) → j < l.word-index → get_or l.words j 0 ≤ l.most + l.all
