@@ -28,10 +28,7 @@ pub const LAST_SET: usize = image::MOST_SYMBOLS - image::SET_WORDS;
 fn last_set(i: usize) -> usize
     ensures { result ≡ min i (most_symbols - set_words) }
 {
-    if i < LAST_SET {
-        return i;
-    }
-    LAST_SET
+    i.min(LAST_SET)
 }
 
 // The unused symbols of a production, joined; where they begin within the last four, with the used ones of these in the lowest bits. They are read as
@@ -55,10 +52,8 @@ fn unused_right(img: &[u16], p: usize, used: usize) -> bool
     requires p_bound { (p < productions img.now) × (used ≤ most_symbols) }
     ensures { result ≡ true → (i : ℕ) → used ≤ i → i < most_symbols → symbol img.now p i ≡ 0 }
 {
-    if used == image::MOST_SYMBOLS {
-        return true;
-    }
-    joined(img, p, used) >> (WORD_BITS * (used - last_set(used))) == 0
+    used == image::MOST_SYMBOLS
+        || joined(img, p, used) >> (WORD_BITS * (used - last_set(used))) == 0
 }
 
 // Whether the left side, the length and the unused symbols of a production are right.
@@ -67,38 +62,27 @@ fn head_right(img: &[u16], p: usize) -> bool
     requires p_bound { p < productions img.now }
     ensures { result ≡ true → Head img.now p }
 {
-    if rules::lhs_right(img, p) {
-        if rules::len_right(img, p) {
-            return unused_right(img, p, image::len(img, p));
-        }
-    }
-    false
+    rules::lhs_right(img, p) && rules::len_right(img, p) && unused_right(img, p, image::len(img, p))
 }
 
 // By how much a word is past another, and a large number where it is before it.
+#[tactic(auto, unfolding(crate::specs::Flat::past))]
 fn past(word: u16, first: u16) -> u16
     ensures { result ≡ past word first }
 {
-    if first <= word {
-        return word - first;
-    }
-    word + (u16::MAX - first) + 1
+    word.wrapping_sub(first)
 }
 
 // 1 where a word is no terminal from 1 to the last, or the one of layout.
+#[tactic(auto, unfolding(crate::specs::Flat::no_terminal))]
 fn no_terminal(word: u16, last: u16, layout: u16) -> u16
     ensures { (result ≡ no_terminal last layout word) × (result ≤ 1) }
 {
-    if word == layout {
-        return 1;
-    }
-    if past(word, 1) < last {
-        return 0;
-    }
-    1
+    u16::from(word == layout || last <= past(word, 1))
 }
 
 // 1 where it is no nonterminal either.
+#[tactic(auto, unfolding(crate::specs::Flat::no_symbol))]
 fn no_symbol(word: u16, last: u16, n: u16, layout: u16) -> u16
     ensures { (result ≡ no_symbol last n layout word) × (result ≤ 1) }
 {
@@ -109,23 +93,24 @@ fn no_symbol(word: u16, last: u16, n: u16, layout: u16) -> u16
 }
 
 // How many words are no symbols.
+#[tactic(auto, using(order::proofs::Sums::sum_on), unfolding(order::specs::Quick::sum))]
 fn no_symbols(words: &[u16], last: u16, n: u16, layout: u16) -> u16
     requires { length words.now < 65536 }
     ensures { result ≡ sum (λ j. no_symbol last n layout (get_or words.now j 0)) (length words.now) }
 {
     let mut many: u16 = 0;
-    let mut i: usize = 0;
-    while i < words.len() {
-        many += no_symbol(words[i], last, n, layout);
-        i += 1;
+    for word in words {
+        many += no_symbol(*word, last, n, layout);
     }
     many
 }
 
 // How many words of a production may be no symbols.
+#[tactic(auto, unfolding(crate::specs::Flat::allowed))]
 fn allowed(img: &[u16], p: usize, last: u16, layout: u16) -> u16
     requires laid { Laid img.now }
-    requires p_bound { (p < productions img.now) × Head img.now p }
+    requires p_bound { p < productions img.now }
+    requires head { Head img.now p }
     ensures { (result ≡ allowed img.now last layout p) × (result ≤ 16) }
 {
     let lhs = no_terminal(image::lhs(img, p) as u16, last, layout);
@@ -135,46 +120,29 @@ fn allowed(img: &[u16], p: usize, last: u16, layout: u16) -> u16
 }
 
 // Whether the heads of all productions are right, and so many words of them may be no symbols.
+#[tactic(auto, using(order::proofs::Sums::sum_on), unfolding(order::specs::Quick::sum))]
 fn heads(img: &[u16], last: u16, layout: u16, most: u16) -> bool
     requires { Laid img.now }
     ensures { result ≡ true → Heads img.now last layout most }
 {
-    let n = image::productions(img);
     let mut many: u16 = 0;
-    let mut p: usize = 0;
-    while p < n {
-        if head_right(img, p) {
-            many += allowed(img, p, last, layout);
-            p += 1;
-        } else {
+    for p in 0..image::productions(img) {
+        if !head_right(img, p) {
             return false;
         }
+        many += allowed(img, p, last, layout);
     }
     most <= many
 }
 
-// 1 where a production has five symbols or more.
-fn is_long(img: &[u16], p: usize) -> usize
-    requires laid { Laid img.now }
-    requires p_bound { p < productions img.now }
-    ensures { result ≤ 1 }
-{
-    if 4 < image::len(img, p) {
-        return 1;
-    }
-    0
-}
-
-// Whether half of the productions are long. Nothing hangs on it but time: short ones are walked faster.
+// Whether half of the productions are long, of five symbols or more. Nothing hangs on it but time: short ones are walked faster.
 fn long(img: &[u16], n: usize) -> bool
     requires laid { Laid img.now }
     requires n_bound { n ≤ productions img.now }
 {
     let mut many: usize = 0;
-    let mut p: usize = 0;
-    while p < n {
-        many += is_long(img, p);
-        p += 1;
+    for p in 0..n {
+        many += usize::from(4 < image::len(img, p));
     }
     n <= 2 * many
 }
@@ -203,11 +171,5 @@ pub fn all_right(img: &[u16]) -> bool
     ensures { result ≡ true → each (prod_rule img.now) (productions img.now) 0 ≡ Good }
 {
     let n = image::productions(img);
-    if n < MANY {
-        return false;
-    }
-    if long(img, n) {
-        return flat(img, image::layout(img));
-    }
-    false
+    MANY <= n && long(img, n) && flat(img, image::layout(img))
 }
