@@ -8,12 +8,6 @@ ghost use Rattle.classes.specs.Ready.{Ready, Onward};
 
 use pack::image;
 
-fn wide(x: u8) -> usize
-    ensures { result ≡ x }
-{
-    x as usize
-}
-
 // The range that the search goes on from: so many ranges later, where the one there does not begin above the byte.
 fn onward(img: &[u16], byte: usize, r: usize, by: usize) -> usize
     requires ready { Ready img.now }
@@ -28,6 +22,7 @@ fn onward(img: &[u16], byte: usize, r: usize, by: usize) -> usize
 }
 
 // The class of a byte, sought in range r alone.
+#[tactic(auto, using(crate::proofs::Ranges::one_above, crate::proofs::Ranges::one_below, crate::proofs::Ranges::one_holds))]
 fn in_range(img: &[u16], byte: usize, r: usize) -> usize
     requires ready { Ready img.now }
     requires r_bound { r + 1 ≤ ranges img.now }
@@ -43,6 +38,7 @@ fn in_range(img: &[u16], byte: usize, r: usize) -> usize
 }
 
 // The class of a byte, sought in so many ranges from a range on: each step leaves half of them.
+#[tactic(auto, using(crate::proofs::Ranges::halved, crate::proofs::Ranges::one_left))]
 fn among(img: &[u16], byte: usize, from: usize, many: usize) -> usize
     requires ready { Ready img.now }
     requires in_ranges { (1 ≤ many) × (from + many ≤ ranges img.now) }
@@ -59,6 +55,7 @@ fn among(img: &[u16], byte: usize, from: usize, many: usize) -> usize
 }
 
 // The class of a byte, sought in all n ranges, of which the first step leaves so many.
+#[tactic(auto, using(crate::proofs::Ranges::first_step))]
 fn among_all(img: &[u16], byte: usize, n: usize, left: usize) -> usize
     requires ready { Ready img.now }
     requires two_halves { (n ≡ ranges img.now) × ((left < n) × (n ≤ left + left)) }
@@ -68,6 +65,7 @@ fn among_all(img: &[u16], byte: usize, n: usize, left: usize) -> usize
 }
 
 // The class of a byte. What the first step leaves is written down as a number, so that the compiler can lay out the others.
+#[tactic(auto, using(crate::proofs::Ranges::one_alone, crate::proofs::Ranges::no_range))]
 fn sought(img: &[u16], byte: usize) -> usize
     requires { Ready img.now }
     ensures { result ≡ class_of img.now byte }
@@ -102,5 +100,5 @@ pub fn class_of(img: &[u16], b: u8) -> usize
     requires { Ready img.now }
     ensures { (result ≡ class_of img.now b) × (result < classes img.now) }
 {
-    sought(img, wide(b))
+    sought(img, usize::from(b))
 }

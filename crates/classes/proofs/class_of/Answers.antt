@@ -3,5 +3,5 @@ use Rattle.classes.proofs.class_of.Goals as goal
 
 pub returns : goal.returns
 returns c =
-    let e = rw c.wide.ensures at c.sought.ensures in
+    let e = rw c.from.ensures at c.sought.ensures in
     (e, rw e (good_class _ c.requires.good _))
