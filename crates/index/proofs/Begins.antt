@@ -4,6 +4,7 @@ use mathlib.Core.Bool.{Bool, true, false}
 use mathlib.Core.List.{List}
 use Prim.Native.Nat.{ℕ, zero, suc, ◌+◌, ◌*◌, ◌-◌, ◌/◌, ◌%◌, ◌^◌, ◌<◌, ◌≤◌}
 use native.Mathlib.Nat.{add-zero, zero-add, mul-zero, mul-one, add-mul-div_right, add-mul-mod_self_right, mul_assoc, mod-lt, mod-eq_of_lt, pow-suc, pow-le-pow_right}
+use native.Mathlib.Numerals.{add-one}
 use native.Mathlib.Omega.{arith}
 use lib.ListN.{length, get_or, set}
 use lib.Seq.{get_or-set_same, get_or-set_other}
@@ -13,9 +14,10 @@ use lib.Dec.{leb}
 use borrow.Author.Count.{below_more}
 use borrow.Author.Tests.{leb-true, leb-false}
 use Rattle.numbers.specs.declared.Verdict.TheVariants.{Good}
-use Rattle.pack.specs.Image.{ranges, lo, hi, range_class, class_in, class_of}
+use Rattle.pack.specs.Image.{classes, ranges, lo, hi, range_class, class_in, class_of}
+use Rattle.pack.specs.Laid.{Laid}
 use Rattle.shape.specs.Shape.{shape}
-use Rattle.shape.proofs.Good.{good_range, good_above}
+use Rattle.shape.proofs.Good.{good_range, good_above, good_class}
 use Rattle.classes.proofs.Ranges.{ends_below, begins_above, before_ends, behind_begins, one_below, one_holds}
 use Rattle.index.specs.Index.{Begun, Tells, Indexed, base}
 
@@ -41,7 +43,7 @@ module _ (img : List ℕ) (good : shape img ≡ Good) (b : ℕ) where
   unfolding class_in
   none_begun g = rw (zero-add (ranges img)) at (sym (begins_above img b 0 0 (ranges img) (λ k l. g.above (0 + 0 + k) (omega arith) (omega arith))))
 
-  pub last_begun : (s : ℕ) → Begun img b (s + 1) → class_of img b ≡ class_in img b 1 s
+  last_begun : (s : ℕ) → Begun img b (s + 1) → class_of img b ≡ class_in img b 1 s
   last_begun s g =
       let z : ranges img ≡ s + (1 + (ranges img - (s + 1))) = omega (arith, g.within) in
       let l : lo img s ≤ b = g.below s (omega arith) in
@@ -49,6 +51,12 @@ module _ (img : List ℕ) (good : shape img ≡ Good) (b : ℕ) where
       ∙ ends_below img b s 0 (1 + (ranges img - (s + 1))) (λ k h. rw (zero-add k) (omega (arith, l, before_ends img good s (omega (arith, g.within)) k h)))
       ∙ ap (λ (k : ℕ). class_in img b (1 + (ranges img - (s + 1))) k) (zero-add s)
       ∙ begins_above img b 1 s (ranges img - (s + 1)) (λ k h. g.above (s + 1 + k) (omega arith) (omega (arith, g.within)))
+
+  pub last_class : (r : ℕ) {c : ℕ} → Begun img b r → (r ≡ 0 → ⊥) → c ≡ class_in img b 1 (r - 1) → (c ≡ class_of img b) × (c < classes img)
+  last_class r {c} g n e =
+      let z : r - 1 + 1 ≡ r = omega arith in
+      let here : c ≡ class_of img b = e ∙ sym (last_begun (r - 1) (rw z g)) in
+      (here, omega (arith, here, good_class img good b))
 
 -- A range that begins at a byte or below it holds the byte where it does not end before: its class, or 0.
 module _ (img : List ℕ) (b r : ℕ) (l : lo img r ≤ b) {class end w : ℕ} (ec : class ≡ range_class img r) (ee : end ≡ hi img r) (behind : end < b → w ≡ 0)
@@ -97,14 +105,21 @@ eight_bits (suc j) =
     let z : 3 * suc j ≡ 3 * j + 3 = omega arith in
     rw (z, pow-add 2 (3 * j) 3, eight_bits j, pow-suc 8 j) refl
 
+-- What a field counts by, and by what the next one does.
+pub eight_more : (j : ℕ) {field : ℕ} → field ≡ 8 ^ j → field * 8 ≡ 8 ^ (j + 1)
+eight_more j {field} e = rw (add-one j, pow-suc 8 j) (omega arith)
+
 -- The fields of an entry, one more each time.
 module _ (img : List ℕ) (good : shape img ≡ Good) (first base : ℕ) (g : Begun img first base) (j fields : ℕ) (lj : j < 8) (lf : fields < 8 ^ j) {all : ℕ}
-    (h : Begun img (first + j) all) (more : base ≤ all) where
-  pub next_small : all - base < 8
+    (h : Begun img (first + j) all) (more : base ≤ all) {field : ℕ} (ef : field ≡ 8 ^ j) where
+  next_small : all - base < 8
   next_small = omega (arith, few_more img good first base g j all h)
 
-  pub next_fits : fields + (all - base) * 8 ^ j < 8 * 8 ^ j
-  next_fits = omega (arith, digits_lt {q = all - base} next_small lf)
+  pub next_fits : fields + (all - base) * field < 8 * field
+  next_fits = rw ef (omega (arith, digits_lt {q = all - base} next_small lf))
+
+  pub next_below : fields + (all - base) * field < 8 ^ (j + 1)
+  next_below = omega (arith, next_fits, eight_more j ef)
 
   next_field : base + (fields + (all - base) * 8 ^ j) / 8 ^ j % 8 ≡ all
   next_field =
@@ -112,18 +127,23 @@ module _ (img : List ℕ) (good : shape img ≡ Good) (first base : ℕ) (g : Be
       rw (z, digits_div (all - base) lf, mod-eq_of_lt next_small) (omega arith)
 
   pub next_each : ((i : ℕ) → i < j → Begun img (first + i) (base + fields / 8 ^ i % 8))
-      → (i : ℕ) → i < j + 1 → Begun img (first + i) (base + (fields + (all - base) * 8 ^ j) / 8 ^ i % 8)
+      → (i : ℕ) → i < j + 1 → Begun img (first + i) (base + (fields + (all - base) * field) / 8 ^ i % 8)
   next_each e =
-      below_more (λ i. Begun img (first + i) (base + (fields + (all - base) * 8 ^ j) / 8 ^ i % 8)) j (λ i l. rw (field_below fields (all - base) i j l) (e i l))
-      (rw next_field h)
+      below_more (λ i. Begun img (first + i) (base + (fields + (all - base) * field) / 8 ^ i % 8)) j
+      (λ i l. rw (ef, field_below fields (all - base) i j l) (e i l)) (rw (ef, next_field) h)
 
 -- The whole entry.
-pub entry_tells : (img : List ℕ) (first base fields : ℕ) → Begun img first base → fields < 16777216
-    → ((i : ℕ) → i < 8 → Begun img (first + i) (base + fields / 8 ^ i % 8)) → Tells img first (base * 16777216 + fields)
-entry_tells img first base fields g l e =
+pub entry_tells : (img : List ℕ) → Laid img → (first base fields j : ℕ) → Begun img first base → 8 ≤ j → j ≤ 8 → fields < 8 ^ j
+    → ((i : ℕ) → i < j → Begun img (first + i) (base + fields / 8 ^ i % 8))
+    → Tells img first (base * 16777216 + fields) × (base * 16777216 + fields < 4294967296)
+entry_tells img laid first base fields j g from to small e =
+    let eight : j ≡ 8 = omega arith in
+    let l : fields < 16777216 = rw eight at small in
     let top : (base * 16777216 + fields) / 16777216 ≡ base = digits_div base l in
-    let z : base * 16777216 + fields ≡ fields + base * 8 ^ 8 = omega arith in
-    record { here = rw top g; each = λ i h. rw (top, z, field_below fields base i 8 h) (e i h) }
+    let z : base * 16777216 + fields ≡ fields + base * 8 ^ 8 = omega arith in (
+      record { here = rw top g; each = λ i h. rw (top, z, field_below fields base i 8 h) (e i (omega arith)) },
+      omega (arith, g.within, laid.sized.r_most),
+    )
 
 -- What an index tells of a byte.
 pub index_tells : (img index : List ℕ) (b : ℕ) {e : ℕ} → b < 256 → e ≡ get_or index (b / 8) 0 → Indexed img index
