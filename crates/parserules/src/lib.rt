@@ -7,7 +7,7 @@ ghost use Rattle.pack.specs.Image.{head_words, most_symbols, terminals, producti
 ghost use Rattle.pack.specs.Laid.{Laid};
 ghost use Rattle.parserules.specs.Rules.{size_right, fits, layout_right, dom_right, lhs_right, len_right, is_symbol, symbol_right, act_right};
 
-use pack::image;
+use pack::{Action, action_of, image};
 
 // The size at word i is there and within its limits.
 pub fn size_right(img: &[u16], i: usize) -> bool
@@ -18,24 +18,17 @@ pub fn size_right(img: &[u16], i: usize) -> bool
         return false;
     }
     let size = image::word_at(img, i);
-    if size < image::least_size(i) {
-        return false;
-    }
-    size <= image::greatest_size(i)
+    image::least_size(i) <= size && size <= image::greatest_size(i)
 }
 
 // No bit T or above, and no bit 0.
+#[tactic(auto, using(sets::proofs::Laws::shifted_away, sets::proofs::Laws::not_shifted_away), unfolding(crate::specs::Rules::fits, sets::specs::Sets::lacks, sets::specs::Sets::has))]
 pub fn fits(img: &[u16], set: u64) -> bool
     requires { Laid img.now }
     ensures { result ≡ fits img.now set }
 {
     let t = image::terminals(img);
-    if t < image::MOST_TERMINALS {
-        if set >> t != 0 {
-            return false;
-        }
-    }
-    set % 2 == 0
+    (t == image::MOST_TERMINALS || set >> t == 0) && set % 2 == 0
 }
 
 pub fn layout_right(img: &[u16]) -> bool
@@ -45,6 +38,7 @@ pub fn layout_right(img: &[u16]) -> bool
     fits(img, image::layout(img))
 }
 
+#[tactic(auto, using(sets::proofs::Laws::in_lacks, sets::proofs::Laws::out_lacks), unfolding(crate::specs::Rules::dom_right, sets::specs::Sets::is_empty))]
 pub fn dom_right(img: &[u16], t: usize) -> bool
     requires laid { Laid img.now }
     requires t_bound { t < terminals img.now }
@@ -54,13 +48,7 @@ pub fn dom_right(img: &[u16], t: usize) -> bool
     if t == 0 {
         return set == 0;
     }
-    if fits(img, set) {
-        if sets::member(set, t) {
-            return false;
-        }
-        return true;
-    }
-    false
+    fits(img, set) && !sets::member(set, t)
 }
 
 pub fn lhs_right(img: &[u16], p: usize) -> bool
@@ -80,23 +68,15 @@ pub fn len_right(img: &[u16], p: usize) -> bool
 }
 
 // A terminal 1..T-1 outside layout, or a nonterminal.
+#[tactic(auto, using(sets::proofs::Laws::in_lacks, sets::proofs::Laws::out_lacks), unfolding(crate::specs::Rules::is_symbol))]
 fn is_symbol(img: &[u16], x: usize) -> bool
     requires { Laid img.now }
     ensures { result ≡ is_symbol img.now x }
 {
     if x < image::terminals(img) {
-        if x < 1 {
-            return false;
-        }
-        if sets::member(image::layout(img), x) {
-            return false;
-        }
-        return true;
+        return 1 <= x && !sets::member(image::layout(img), x);
     }
-    if x < image::FIRST_NONTERMINAL {
-        return false;
-    }
-    x < image::FIRST_NONTERMINAL + image::nonterminals(img)
+    image::FIRST_NONTERMINAL <= x && x < image::FIRST_NONTERMINAL + image::nonterminals(img)
 }
 
 pub fn symbol_right(img: &[u16], p: usize, i: usize) -> bool
@@ -112,25 +92,17 @@ pub fn symbol_right(img: &[u16], p: usize, i: usize) -> bool
 }
 
 // The action of a code in column t names what exists, and stands where it may.
+#[tactic(auto, using(sets::proofs::Laws::in_lacks, sets::proofs::Laws::out_lacks), unfolding(crate::specs::Rules::act_right))]
 pub fn act_right(img: &[u16], t: usize, code: usize) -> bool
     requires { Laid img.now }
     ensures { result ≡ act_right img.now t (action_of code) }
 {
-    if code == 0 {
-        return true;
-    }
-    if code == 1 {
-        return t == 0;
-    }
-    let rest = code - 2;
-    if sets::member(image::layout(img), t) {
-        return false;
-    }
-    if rest % 2 == 0 {
-        if t < 1 {
-            return false;
+    match action_of(code) {
+        Action::Error => true,
+        Action::Accept => t == 0,
+        Action::Shift(s) => {
+            !sets::member(image::layout(img), t) && 1 <= t && s < image::states(img)
         }
-        return rest / 2 < image::states(img);
+        Action::Reduce(p) => !sets::member(image::layout(img), t) && p < image::productions(img),
     }
-    rest / 2 < image::productions(img)
 }
