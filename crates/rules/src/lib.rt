@@ -13,15 +13,13 @@ pub use parserules::{
 };
 
 // A range begins above the one before it.
+#[tactic(auto, unfolding(parserules::specs::Rules::above_previous))]
 pub fn above_previous(img: &[u16], r: usize) -> bool
     requires laid { Laid img.now }
     requires r_bound { r < ranges img.now }
     ensures { result ≡ above_previous img.now r }
 {
-    if r == 0 {
-        return true;
-    }
-    image::hi(img, r - 1) < image::lo(img, r)
+    r == 0 || image::hi(img, r - 1) < image::lo(img, r)
 }
 
 pub fn ends_right(img: &[u16], r: usize) -> bool
@@ -30,10 +28,7 @@ pub fn ends_right(img: &[u16], r: usize) -> bool
     ensures { result ≡ ends_right img.now r }
 {
     let hi = image::hi(img, r);
-    if hi < image::lo(img, r) {
-        return false;
-    }
-    hi <= image::GREATEST_BYTE
+    image::lo(img, r) <= hi && hi <= image::GREATEST_BYTE
 }
 
 pub fn class_right(img: &[u16], r: usize) -> bool
@@ -45,13 +40,11 @@ pub fn class_right(img: &[u16], r: usize) -> bool
 }
 
 // acc and rej are empty in scan state 0.
+#[tactic(auto, unfolding(parserules::specs::Rules::empty_at_start, sets::specs::Sets::is_empty))]
 fn empty_at_start(q: usize, set: u64) -> bool
     ensures { result ≡ empty_at_start q set }
 {
-    if q == 0 {
-        return set == 0;
-    }
-    true
+    q != 0 || set == 0
 }
 
 pub fn acc_right(img: &[u16], q: usize) -> bool
@@ -60,25 +53,17 @@ pub fn acc_right(img: &[u16], q: usize) -> bool
     ensures { result ≡ acc_right img.now q }
 {
     let acc = image::acc(img, q);
-    if fits(img, acc) {
-        return empty_at_start(q, acc);
-    }
-    false
+    fits(img, acc) && empty_at_start(q, acc)
 }
 
+#[tactic(auto, unfolding(sets::specs::Sets::is_empty))]
 pub fn rej_right(img: &[u16], q: usize) -> bool
     requires laid { Laid img.now }
     requires q_bound { q < scan_states img.now }
     ensures { result ≡ rej_right img.now q }
 {
     let rej = image::rej(img, q);
-    if fits(img, rej) {
-        if empty_at_start(q, rej) {
-            return image::acc(img, q) & rej == 0;
-        }
-        return false;
-    }
-    false
+    fits(img, rej) && empty_at_start(q, rej) && image::acc(img, q) & rej == 0
 }
 
 pub fn poss_right(img: &[u16], q: usize) -> bool
@@ -90,17 +75,16 @@ pub fn poss_right(img: &[u16], q: usize) -> bool
 }
 
 // The set is that of none of the first n groups.
+#[tactic(auto, using(crate::proofs::Laws::differs_not, crate::proofs::Laws::differs_on, crate::proofs::Laws::differs_end))]
 fn differs(img: &[u16], set: u64, n: usize) -> bool
     requires laid { Laid img.now }
     requires n_bound { n ≤ groups img.now }
     ensures { result ≡ differs img.now set n 0 }
 {
-    let mut g: usize = 0;
-    while g < n {
+    for g in 0..n {
         if image::group_set(img, g) == set {
             return false;
         }
-        g += 1;
     }
     true
 }
@@ -111,13 +95,7 @@ pub fn group_right(img: &[u16], g: usize) -> bool
     ensures { result ≡ group_right img.now g }
 {
     let set = image::group_set(img, g);
-    if fits(img, set) {
-        if sets::several(set) {
-            return differs(img, set, g);
-        }
-        return false;
-    }
-    false
+    fits(img, set) && sets::several(set) && differs(img, set, g)
 }
 
 pub fn chosen_right(img: &[u16], g: usize) -> bool
