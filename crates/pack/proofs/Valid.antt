@@ -1,14 +1,17 @@
--- Laws of the valid set: how `image::valid_set` finds it, from the last column down, and which terminals are in it. Assumes nothing.
-use mathlib.Core.Path.{◌≡◌, refl, sym, ap, ◌∙◌}
+-- Laws of the valid set: how `image::valid_set` finds it, column by column, and which terminals are in it. Assumes nothing.
+use mathlib.Core.Path.{◌≡◌, refl, sym, ◌∙◌}
 use mathlib.Core.List.{List}
 use Prim.Native.Nat.{ℕ, zero, suc, ◌+◌, ◌-◌, ◌*◌, ◌/◌, ◌%◌, ◌^◌, ◌<◌, ◌≤◌}
-use native.Mathlib.Nat.{add-zero, zero-add, sub-zero, pow-suc}
+use native.Mathlib.Nat.{add-zero, zero-add, pow-suc}
 use native.Mathlib.Numerals.{add-one}
 use native.Mathlib.Omega.{arith}
-use lib.Pow.{pow-add, pow_mono, pow-lt}
+use lib.Pow.{pow-add, pow_mono}
 use Rattle.sets.specs.Sets.{has, single}
 use Rattle.sets.proofs.Laws.{has_none, has-zero, has-suc}
 use Rattle.words.specs.Image.{terminals, act, valid_from, valid_set}
+
+doubled : (t : ℕ) → 2 ^ (t + 1) ≡ 2 ^ t + 2 ^ t
+doubled t = let d : 2 ^ (t + 1) ≡ 2 ^ t * 2 = pow-add 2 t 1 in omega arith
 
 module _ (img : List ℕ) (s : ℕ) where
   -- What the columns from t on give is below the bit after them.
@@ -17,46 +20,45 @@ module _ (img : List ℕ) (s : ℕ) where
   valid_bound zero t = rw (add-zero t) (omega arith)
   valid_bound (suc n) t = go (act img s t) refl (valid_bound n (t + 1))
     where
-      doubled : 2 ^ (t + 1) ≡ 2 ^ t + 2 ^ t
-      doubled = let d : 2 ^ (t + 1) ≡ 2 ^ t * 2 = pow-add 2 t 1 in omega arith
-
       go : (k : ℕ) → act img s t ≡ k → valid_from img s n (t + 1) + 2 ^ (t + 1) ≤ 2 ^ (t + 1 + n) → valid_from img s (suc n) t + 2 ^ t ≤ 2 ^ (t + suc n)
-      go zero e ih = let z : t + suc n ≡ t + 1 + n = omega arith in rw z (simp (valid_from, e) (omega (arith, doubled)))
-      go (suc k) e ih = let z : t + suc n ≡ t + 1 + n = omega arith in rw z (simp (valid_from, e) (omega (arith, doubled)))
+      go zero e ih = let z : t + suc n ≡ t + 1 + n = omega arith in rw z (simp (valid_from, e) (omega (arith, doubled t)))
+      go (suc k) e ih = let z : t + suc n ≡ t + 1 + n = omega arith in rw z (simp (valid_from, e) (omega (arith, doubled t)))
 
   -- The valid set has no bit T or above.
   pub valid_lt : valid_set img s < 2 ^ terminals img
   valid_lt = let b = rw (zero-add (terminals img)) at (valid_bound (terminals img) 0) in omega (arith, b)
 
-  -- The loop over the columns: it begins, it takes column t - 1, and it is at the end.
-  pub valid_none : (t : ℕ) → t ≡ terminals img → 0 ≡ valid_from img s (terminals img - t) t
-  unfolding valid_from
-  valid_none t e = let z : terminals img - t ≡ 0 = omega arith in rw z refl
-
-  module _ (t set : ℕ) (l : 0 < t) (m : t ≤ terminals img) (es : set ≡ valid_from img s (terminals img - t) t) where
-    pub valid_fits : terminals img ≤ 64 → single (t - 1) + set < 18446744073709551616
-    valid_fits h =
-        let b = valid_bound (terminals img - t) t in
-        let z : t + (terminals img - t) ≤ 64 = omega arith in
-        let y : t - 1 < t = omega arith in
-        let w : 2 ^ (t + (terminals img - t)) ≤ 18446744073709551616 = pow_mono z in
-        omega (arith, b, w, pow-lt y)
-
-    pub valid_with : {cell now : ℕ} → cell ≡ act img s (t - 1) → (cell ≡ 0 → now ≡ set) × ((cell ≡ 0 → ⊥) → now ≡ single (t - 1) + set)
-        → now ≡ valid_from img s (terminals img - (t - 1)) (t - 1)
+  -- The loop over the columns: what it has found, and what the columns from t on give, are the valid set.
+  module _ (t set : ℕ) (es : set + valid_from img s (terminals img - t) t ≡ valid_set img s) where
+    pub valid_end : terminals img ≤ t → set ≡ valid_set img s
     unfolding valid_from
-    valid_with {cell} {now} ec w =
-        let z : terminals img - (t - 1) ≡ suc (terminals img - t) = omega arith in
-        rw z (go cell refl)
-      where
-        go : (k : ℕ) → cell ≡ k → now ≡ valid_from img s (suc (terminals img - t)) (t - 1)
-        go zero e = let y : t - 1 + 1 ≡ t = omega arith in simp (valid_from, sym ec ∙ e, y) (w.0 e ∙ es)
-        go (suc k) e =
-            let y : t - 1 + 1 ≡ t = omega arith in
-            simp (valid_from, sym ec ∙ e, y) (w.1 (λ x. omega arith) ∙ ap (λ (x : ℕ). single (t - 1) + x) es)
+    valid_end h =
+        let z : terminals img - t ≡ 0 = omega arith in
+        omega (arith, rw z at es)
 
-  pub valid_all : (t set : ℕ) → t ≤ 0 → set ≡ valid_from img s (terminals img - t) t → set ≡ valid_set img s
-  valid_all t set l e = let z : t ≡ 0 = omega arith in e ∙ rw (z, sub-zero) refl
+    module _ (l : t < terminals img) (below : set < 2 ^ t) where
+      pub valid_fits : terminals img ≤ 64 → single t + set < 18446744073709551616
+      valid_fits h =
+          let z : t + 1 ≤ 64 = omega arith in
+          let w : 2 ^ (t + 1) ≤ 18446744073709551616 = pow_mono z in
+          omega (arith, w, doubled t)
+
+      pub valid_with : {cell now : ℕ} → cell ≡ act img s t → (cell ≡ 0 → now ≡ set) × ((cell ≡ 0 → ⊥) → now ≡ single t + set)
+          → (now + valid_from img s (terminals img - (t + 1)) (t + 1) ≡ valid_set img s) × (now < 2 ^ (t + 1))
+      unfolding valid_from
+      valid_with {cell} {now} ec w =
+          let z : terminals img - t ≡ suc (terminals img - (t + 1)) = omega arith in
+          go cell refl (rw z at es)
+        where
+          go : (k : ℕ) → cell ≡ k → set + valid_from img s (suc (terminals img - (t + 1))) t ≡ valid_set img s
+              → (now + valid_from img s (terminals img - (t + 1)) (t + 1) ≡ valid_set img s) × (now < 2 ^ (t + 1))
+          go zero e f =
+              let h = simp (valid_from, sym ec ∙ e) at f in
+              (omega (arith, h, w.0 e), omega (arith, w.0 e, doubled t))
+          go (suc k) e f =
+              let h = simp (valid_from, sym ec ∙ e) at f in
+              let x : now ≡ single t + set = w.1 (λ n. omega arith) in
+              (omega (arith, h, x), omega (arith, x, doubled t))
 
   -- 1 for a cell that is not 0; and the set of the columns from t on, its lowest t bits shifted away.
   bit : ℕ → ℕ

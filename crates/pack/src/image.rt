@@ -22,6 +22,7 @@ pub use words::{
 };
 
 // What stands there.
+#[tactic(auto, unfolding(words::specs::Image::layout))]
 pub fn layout(img: &[u16]) -> u64
     requires { Laid img.now }
     ensures { result ≡ layout img.now }
@@ -29,6 +30,7 @@ pub fn layout(img: &[u16]) -> u64
     set_at(img, LAYOUT_AT)
 }
 
+#[tactic(auto, unfolding(words::specs::Image::dom))]
 pub fn dom(img: &[u16], t: usize) -> u64
     requires laid { Laid img.now }
     requires t_bound { t < terminals img.now }
@@ -37,6 +39,7 @@ pub fn dom(img: &[u16], t: usize) -> u64
     set_at(img, dom_at(t))
 }
 
+#[tactic(auto, unfolding(words::specs::Image::lhs))]
 pub fn lhs(img: &[u16], p: usize) -> usize
     requires laid { Laid img.now }
     requires p_bound { p < productions img.now }
@@ -45,6 +48,7 @@ pub fn lhs(img: &[u16], p: usize) -> usize
     word_at(img, prod_at(img, p))
 }
 
+#[tactic(auto, unfolding(words::specs::Image::len))]
 pub fn len(img: &[u16], p: usize) -> usize
     requires laid { Laid img.now }
     requires p_bound { p < productions img.now }
@@ -53,6 +57,7 @@ pub fn len(img: &[u16], p: usize) -> usize
     word_at(img, len_at(img, p))
 }
 
+#[tactic(auto, unfolding(words::specs::Image::symbol))]
 pub fn symbol(img: &[u16], p: usize, i: usize) -> usize
     requires laid { Laid img.now }
     requires p_bound { (p < productions img.now) × (i < most_symbols) }
@@ -61,6 +66,7 @@ pub fn symbol(img: &[u16], p: usize, i: usize) -> usize
     word_at(img, symbol_at(img, p, i))
 }
 
+#[tactic(auto, unfolding(words::specs::Image::act))]
 pub fn act(img: &[u16], s: usize, t: usize) -> usize
     requires laid { Laid img.now }
     requires s_bound { (s < states img.now) × (t < terminals img.now) }
@@ -69,6 +75,7 @@ pub fn act(img: &[u16], s: usize, t: usize) -> usize
     word_at(img, act_at(img, s, t))
 }
 
+#[tactic(auto, unfolding(words::specs::Image::goto))]
 pub fn goto(img: &[u16], s: usize, n: usize) -> usize
     requires laid { Laid img.now }
     requires s_bound { (s < states img.now) × (n < nonterminals img.now) }
@@ -77,6 +84,7 @@ pub fn goto(img: &[u16], s: usize, n: usize) -> usize
     word_at(img, goto_at(img, s, n))
 }
 
+#[tactic(auto, unfolding(words::specs::Image::lo))]
 pub fn lo(img: &[u16], r: usize) -> usize
     requires laid { Laid img.now }
     requires r_bound { r < ranges img.now }
@@ -85,6 +93,7 @@ pub fn lo(img: &[u16], r: usize) -> usize
     word_at(img, range_at(img, r))
 }
 
+#[tactic(auto, unfolding(words::specs::Image::hi))]
 pub fn hi(img: &[u16], r: usize) -> usize
     requires laid { Laid img.now }
     requires r_bound { r < ranges img.now }
@@ -93,6 +102,7 @@ pub fn hi(img: &[u16], r: usize) -> usize
     word_at(img, hi_at(img, r))
 }
 
+#[tactic(auto, unfolding(words::specs::Image::range_class))]
 pub fn range_class(img: &[u16], r: usize) -> usize
     requires laid { Laid img.now }
     requires r_bound { r < ranges img.now }
@@ -109,6 +119,7 @@ pub fn move_of(img: &[u16], q: usize, c: usize) -> usize
     word_at(img, move_at(img, q, c))
 }
 
+#[tactic(auto, unfolding(words::specs::Image::acc))]
 pub fn acc(img: &[u16], q: usize) -> u64
     requires laid { Laid img.now }
     requires q_bound { q < scan_states img.now }
@@ -117,6 +128,7 @@ pub fn acc(img: &[u16], q: usize) -> u64
     set_at(img, scan_at(img, q))
 }
 
+#[tactic(auto, unfolding(words::specs::Image::rej))]
 pub fn rej(img: &[u16], q: usize) -> u64
     requires laid { Laid img.now }
     requires q_bound { q < scan_states img.now }
@@ -125,6 +137,7 @@ pub fn rej(img: &[u16], q: usize) -> u64
     set_at(img, rej_at(img, q))
 }
 
+#[tactic(auto, unfolding(words::specs::Image::poss))]
 pub fn poss(img: &[u16], q: usize) -> u64
     requires laid { Laid img.now }
     requires q_bound { q < scan_states img.now }
@@ -133,6 +146,7 @@ pub fn poss(img: &[u16], q: usize) -> u64
     set_at(img, poss_at(img, q))
 }
 
+#[tactic(auto, unfolding(words::specs::Image::group_set))]
 pub fn group_set(img: &[u16], g: usize) -> u64
     requires laid { Laid img.now }
     requires g_bound { g < groups img.now }
@@ -141,6 +155,7 @@ pub fn group_set(img: &[u16], g: usize) -> u64
     set_at(img, group_at(img, g))
 }
 
+#[tactic(auto, unfolding(words::specs::Image::chosen))]
 pub fn chosen(img: &[u16], g: usize) -> usize
     requires laid { Laid img.now }
     requires g_bound { g < groups img.now }
@@ -161,15 +176,14 @@ fn with(set: u64, cell: usize, t: usize) -> u64
 }
 
 // The terminals with a cell that is not 0 in the row of parse state s.
+#[tactic(auto, using(crate::proofs::Valid::valid_fits))]
 pub fn valid_set(img: &[u16], s: usize) -> u64
     requires laid { Laid img.now }
     requires s_bound { s < states img.now }
     ensures { result ≡ valid_set img.now s }
 {
-    let mut t = terminals(img);
     let mut set: u64 = 0;
-    while 0 < t {
-        t -= 1;
+    for t in 0..terminals(img) {
         set = with(set, act(img, s, t), t);
     }
     set

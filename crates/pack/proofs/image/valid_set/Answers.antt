@@ -1,18 +1,12 @@
-use borrow.Author.Rules.{rules}
-use native.Mathlib.Omega.{arith}
-use Rattle.pack.proofs.Valid.{valid_none, valid_fits, valid_with}
+use Rattle.std.proofs.Common.{arith}
+use Rattle.pack.proofs.Valid.{valid_with, valid_end}
 use Rattle.pack.proofs.image.valid_set.Goals as goal
-
-pub loop-t-init : goal.loop-t-init
-loop-t-init c = (search rules, valid_none _ _ _ c.terminals-t.ensures)
-
-pub with-set-requires : goal.with-set-requires
-with-set-requires c =
-    let v = c.loop-t.invariant in
-    let z = c.requires.laid.sized.t_most in
-    (omega (arith, v.0, z, c.loop-t-test.true), valid_fits _ _ _ _ c.loop-t-test.true v.0 v.1 z)
 
 pub loop-t-preserved : goal.loop-t-preserved
 loop-t-preserved c =
     let v = c.loop-t.invariant in
-    (omega (arith, v.0), valid_with _ _ _ _ c.loop-t-test.true v.0 v.1 c.act.ensures c.with-set.ensures)
+    let more = valid_with _ _ _ _ v.found (omega (arith, c.loop-t-test.true, c.terminals-t-end.ensures)) v.below c.act.ensures c.with-set.ensures in
+    record { found = more.0; below = more.1 }
+
+pub returns : goal.returns
+returns c = valid_end _ _ _ _ c.loop-t.invariant.found (omega (arith, c.loop-t-test.false, c.terminals-t-end.ensures))
