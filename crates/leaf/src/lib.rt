@@ -4,11 +4,7 @@
 ghost use Rattle.std.specs.Prelude.{◌≡◌, ◌+◌, ◌≤◌, length};
 ghost use Rattle.leaf.specs.Leaf.{leaf_part, leaf_bytes};
 
-fn wide(x: u16) -> usize
-    ensures { result ≡ x }
-{
-    x as usize
-}
+use pack::image;
 
 // A part of a text: where it starts, and its length.
 #[derive(Clone, Copy)]
@@ -18,6 +14,7 @@ pub struct Part {
 }
 
 // The part of the text that a leaf's record stands for, or the empty part at its front where the record is no leaf of this text.
+#[tactic(auto, unfolding(crate::specs::Leaf::leaf_part))]
 pub fn leaf_part(text: &[u8], terminal: u16, start: u16, size: u16, state: u16) -> Part
     ensures value { result ≡ leaf_part text.now terminal start size state }
     ensures length_in_bounds { result.start + result.length ≤ length text.now }
@@ -26,14 +23,11 @@ pub fn leaf_part(text: &[u8], terminal: u16, start: u16, size: u16, state: u16) 
         start: 0,
         length: 0,
     };
-    if terminal < 1 {
+    if terminal < 1 || image::FIRST_NONTERMINAL <= usize::from(terminal) {
         return none;
     }
-    if pack::image::FIRST_NONTERMINAL <= wide(terminal) {
-        return none;
-    }
-    let from = wide(start);
-    let bytes = wide(size);
+    let from = usize::from(start);
+    let bytes = usize::from(size);
     if text.len() < from + bytes {
         return none;
     }
@@ -44,6 +38,7 @@ pub fn leaf_part(text: &[u8], terminal: u16, start: u16, size: u16, state: u16) 
 }
 
 // A leaf's bytes: that part of the lent text itself.
+#[tactic(auto, unfolding(crate::specs::Leaf::leaf_bytes))]
 pub fn leaf(text: &[u8], terminal: u16, start: u16, size: u16, state: u16) -> &[u8]
     ensures { result.now ≡ leaf_bytes text.now terminal start size state }
 {
