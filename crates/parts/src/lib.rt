@@ -15,10 +15,7 @@ const LONGEST_PATH: usize = 4096;
 pub fn least(a: usize, b: usize) -> usize
     ensures { result ≡ min a b }
 {
-    if a < b {
-        return a;
-    }
-    b
+    a.min(b)
 }
 
 // The first n words, or all where there are fewer.
