@@ -10,15 +10,13 @@ fn put_name(row: &mut [u8], name: &[u8]) -> usize
     requires { length name.now ≤ length row.old }
     ensures { (result ≡ length name.now) × (take result row.new ≡ name.now) }
 {
-    let mut i: usize = 0;
-    while i < name.len() {
-        row[i] = name[i];
-        i += 1;
-    }
-    i
+    let size = name.len();
+    row[..size].copy_from_slice(name);
+    size
 }
 
 // What the lines of table i begin with: it is put at the front of a row, and its length is given.
+#[tactic(auto, using(text::proofs::Tables::last_place), unfolding(text::specs::Form::tables_of))]
 pub fn name_of(i: usize, row: &mut [u8]) -> usize
     requires { (i < 9) × (7 ≤ length row.old) }
     ensures { (result ≤ 7) × ((form : Form) (img : List ℕ) → take result row.new ≡ (table_at form img i).name) }
