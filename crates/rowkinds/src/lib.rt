@@ -10,6 +10,7 @@ use pack::image;
 use text::{COMMA, Form, Row};
 
 // The byte after a field: a comma, or after the last one what ends the row.
+#[tactic(auto, unfolding(text::specs::Form::after))]
 pub fn after(more: usize, end: u8) -> u8
     ensures { result ≡ after more end }
 {
@@ -20,6 +21,7 @@ pub fn after(more: usize, end: u8) -> u8
 }
 
 // A row of so many cells, as they stand in a line of this form.
+#[tactic(auto, unfolding(text::specs::Form::cells_in))]
 fn cells_in(form: Form, n: usize) -> Row
     ensures { result ≡ cells_in form n }
 {
@@ -30,6 +32,7 @@ fn cells_in(form: Form, n: usize) -> Row
 }
 
 // What stands on each line of table i.
+#[tactic(auto, using(text::proofs::Tables::last_place), unfolding(text::specs::Form::tables_of))]
 pub fn row_of(img: &[u16], i: usize, form: Form) -> Row
     requires { (9 ≤ length img.now) × (i < 9) }
     ensures { result ≡ (table_at form img.now i).row }
@@ -48,6 +51,7 @@ pub fn row_of(img: &[u16], i: usize, form: Form) -> Row
 }
 
 // How many lines table i has.
+#[tactic(auto, using(text::proofs::Tables::last_place), unfolding(text::specs::Form::tables_of))]
 pub fn lines_of(img: &[u16], i: usize) -> usize
     requires { (9 ≤ length img.now) × (i < 9) }
     ensures { (form : Form) → result ≡ (table_at form img.now i).lines }
@@ -66,6 +70,7 @@ pub fn lines_of(img: &[u16], i: usize) -> usize
 }
 
 // The words of a row.
+#[tactic(auto, unfolding(text::specs::Form::row_width))]
 pub fn row_width(row: Row) -> usize
     requires { row_width row ≤ largest_image }
     ensures { result ≡ row_width row }
