@@ -1,4 +1,4 @@
--- Special bytes, and what is printed for each. Assumes nothing.
+-- What is printed for a byte. Assumes nothing.
 use mathlib.Core.Path.{◌≡◌, refl, sym, ◌∙◌}
 use mathlib.Core.Bool.{Bool, true, false, ◌||◌}
 use mathlib.Core.List.{List, [], ◌∷◌, ◌++◌}
@@ -12,18 +12,6 @@ use borrow.Author.Tests.{eq-eqb, ne_eqb}
 use Rattle.print.specs.Print.{special, escaped_byte, escaped}
 
 module _ (b : ℕ) where
-  pub special_open : b ≡ 91 → true ≡ special b
-  unfolding special
-  special_open e = simp (special, eq-eqb b 91 e, ◌||◌)
-
-  pub special_close : (b ≡ 91 → ⊥) → b ≡ 93 → true ≡ special b
-  unfolding special
-  special_close n e = simp (special, ne_eqb b 91 n, eq-eqb b 93 e, ◌||◌)
-
-  pub special_other : {x : Bool} → (b ≡ 91 → ⊥) → (b ≡ 93 → ⊥) → x ≡ eqb b 92 → x ≡ special b
-  unfolding special
-  special_other n m e = simp (special, ne_eqb b 91 n, ne_eqb b 93 m, ◌||◌, ← e)
-
   pub escaped-special : {x : Bool} → x ≡ special b → x ≡ true → escaped_byte b ≡ 92 ∷ b ∷ []
   unfolding escaped_byte
   escaped-special e f = simp (escaped_byte, sym e ∙ f)

@@ -5,19 +5,15 @@ ghost use Rattle.std.specs.Prelude.{◌≡◌, true, ◌+◌, ◌<◌, length};
 ghost use Rattle.print.specs.Print.{special, escaped_byte, escaped};
 
 // Whether a byte is preceded by a backslash.
+#[tactic(auto, unfolding(print::specs::Print::special))]
 pub fn special(b: u8) -> bool
     ensures { result ≡ special b }
 {
-    if b == b'[' {
-        return true;
-    }
-    if b == b']' {
-        return true;
-    }
-    b == b'\\'
+    b == b'[' || b == b']' || b == b'\\'
 }
 
 // The bytes that are printed for a byte.
+#[tactic(auto, unfolding(print::specs::Print::escaped_byte))]
 fn width(b: u8) -> usize
     ensures { result ≡ length (escaped_byte b) }
 {
@@ -32,10 +28,8 @@ pub fn bytes_size(bytes: &[u8]) -> usize
     ensures { result ≡ length (escaped bytes.now) }
 {
     let mut size: usize = 0;
-    let mut i: usize = 0;
-    while i < bytes.len() {
-        size += width(bytes[i]);
-        i += 1;
+    for b in bytes {
+        size += width(*b);
     }
     size
 }
