@@ -10,9 +10,10 @@ fn put_name(row: &mut [u8], name: &[u8]) -> usize
     requires { length name.now ≤ length row.old }
     ensures { (result ≡ length name.now) × (take result row.new ≡ name.now) }
 {
-    let size = name.len();
-    row[..size].copy_from_slice(name);
-    size
+    for i in 0..name.len() {
+        row[i] = name[i];
+    }
+    name.len()
 }
 
 // What the lines of table i begin with: it is put at the front of a row, and its length is given.
