@@ -5,14 +5,12 @@ use mathlib.Core.List.{List, [], ◌∷◌, ◌++◌, append_assoc}
 use Prim.Native.Nat.{ℕ, zero, suc, ◌+◌, ◌-◌, ◌<◌, ◌≤◌}
 use native.Mathlib.Nat.{add-zero, sub-zero}
 use native.Mathlib.Omega.{arith}
-use lib.ListN.{get_or}
+use lib.ListN.{length, get_or, length-append}
 use Rattle.text.specs.Decimal.{decimal}
 use Rattle.text.specs.Form.{newline, comma, colon, before, column_text}
 use Rattle.text.specs.Writer.{cells_text}
 use Rattle.text.proofs.Cells.{text_none, text_some}
-use Rattle.putfields.specs.Steps.{Room, Wrote}
 use Rattle.putfields.proofs.FieldLaws.{number_field}
-use Rattle.putfields.proofs.WriteLaws.{wrote_as, wrote_two, room_as, room_front, room_rest}
 use Rattle.putcells.specs.Steps.{cell_text, first_after}
 
 -- ---- one column
@@ -23,6 +21,9 @@ comma_none first e = rw e
 pub comma_some : (first : Bool) → first ≡ false → before first ≡ comma ∷ []
 unfolding before
 comma_some first e = rw e
+
+pub comma_length : (first : Bool) → first ≡ false → length (before first) ≡ 1
+comma_length first e = rw (comma_some first e)
 
 pub first_same : (first : Bool) (code : ℕ) → code ≡ 0 → first ≡ first_after first code
 unfolding first_after
@@ -46,10 +47,10 @@ module _ (first : Bool) (column code : ℕ) where
       go zero e = absurd (z e)
       go (suc k) e = simp append_assoc
 
-  -- Room for a cell is room for its parts, one after the other.
-  pub parts_room : {out : List ℕ} {at : ℕ} → (code ≡ 0 → ⊥) → Room (cell_text first column code) out at
-      → Room (before first ++ (decimal column ++ ((colon ∷ []) ++ decimal code))) out at
-  parts_room z room = room_as _ (cell_some z) room
+  pub cell_length : (code ≡ 0 → ⊥) → length (cell_text first column code) ≡ length (before first) + length (decimal column) + 1 + length (decimal code)
+  cell_length z =
+      let a = ap length (cell_some z) ∙ length-append (before first) (decimal column ++ ((colon ∷ []) ++ decimal code)) in
+      omega (arith, a, length-append (decimal column) ((colon ∷ []) ++ decimal code), length-append (colon ∷ []) (decimal code))
 
 -- ---- the columns that are left
 abbrev pub cells_left : Bool → ℕ → ℕ → List ℕ → ℕ → List ℕ
@@ -59,7 +60,7 @@ pub cells_begin : (n : ℕ) (img : List ℕ) (i : ℕ) → cells_text true n 0 i
 cells_begin n img i = rw (sub-zero n, add-zero i)
 
 -- The column that stands next, and those behind it.
-cells_are : (first : Bool) (n column : ℕ) (img : List ℕ) (at : ℕ)
+pub cells_are : (first : Bool) (n column : ℕ) (img : List ℕ) (at : ℕ)
     → cells_text first (suc n) column img at ≡ cell_text first column (get_or img at 0) ++ cells_text (first_after first (get_or img at 0)) n (column + 1) img (at + 1)
 unfolding cell_text first_after
 cells_are first n column img at = go (get_or img at 0) refl
@@ -80,14 +81,6 @@ module _ (first : Bool) (n column : ℕ) (img : List ℕ) (i : ℕ) where
   unfolding cells_text
   cells_last h = let z : n - column ≡ 0 = omega arith in ap (λ (k : ℕ). cells_text first k column img (i + column)) z
 
-  module _ {w : ℕ} (h : column < n) (e : w ≡ get_or img (i + column) 0) where
-    pub cell_room : {out : List ℕ} {at : ℕ} → Room (cells_left first n column img i) out at → Room (cell_text first column w) out at
-    cell_room k = room_front _ _ (room_as _ (cells_on h e) k)
-
-    pub cells_room : {s : Bool} {out out₁ : List ℕ} {at r₁ : ℕ} → s ≡ first_after first w → Room (cells_left first n column img i) out at
-        → Wrote (cell_text first column w) out at out₁ r₁ → Room (cells_left s n (column + 1) img i) out₁ r₁
-    cells_room f k p = rw f (room_rest _ _ (room_as _ (cells_on h e) k) p)
-
-    pub cells_step : {s : Bool} {out out₁ out₂ : List ℕ} {at r₁ r₂ : ℕ} → s ≡ first_after first w → Wrote (cell_text first column w) out at out₁ r₁
-        → Wrote (cells_left s n (column + 1) img i) out₁ r₁ out₂ r₂ → Wrote (cells_left first n column img i) out at out₂ r₂
-    cells_step f p q = wrote_as _ (cells_on h e) (wrote_two _ _ p (rw f at q))
+  pub cells_length : {w : ℕ} → column < n → w ≡ get_or img (i + column) 0
+      → length (cells_left first n column img i) ≡ length (cell_text first column w) + length (cells_left (first_after first w) n (column + 1) img i)
+  cells_length {w} h e = ap length (cells_on h e) ∙ length-append (cell_text first column w) _

@@ -1,12 +1,12 @@
--- The fields of a line: names, numbers and sets, and the turns of the loop over fields.
+-- The fields of a line: numbers and sets, and the turns of the loop over fields.
 use mathlib.Core.Path.{◌≡◌, refl, ap, ◌∙◌}
 use mathlib.Core.List.{List, [], ◌∷◌, ◌++◌}
-use Prim.Native.Nat.{ℕ, zero, suc, ◌+◌, ◌-◌, ◌/◌, ◌%◌, ◌<◌, ◌≤◌}
-use native.Mathlib.Nat.{add-zero, zero-add}
+use Prim.Native.Nat.{ℕ, zero, suc, ◌+◌, ◌*◌, ◌-◌, ◌/◌, ◌%◌, ◌<◌, ◌≤◌}
+use native.Mathlib.Nat.{add-zero, zero-add, suc-mul}
 use native.Mathlib.Numerals.{add-one, sub-one}
 use native.Mathlib.Omega.{arith}
-use lib.ListN.{length, get_or, drop, drop_of_length-le}
-use lib.Seq.{drop-cons}
+use lib.ListN.{length, get_or, take, length-append}
+use lib.Seq.{take-suc, take_all}
 use Rattle.text.specs.declared.Kind.{Kind}
 use Rattle.text.specs.declared.Kind.TheVariants.{Number, Set}
 use Rattle.text.specs.Decimal.{decimal}
@@ -14,27 +14,11 @@ use Rattle.text.specs.Fields.{hex_of, hex_word, field_text, width_of}
 use Rattle.text.specs.Form.{after}
 use Rattle.text.specs.Writer.{fields_text}
 use Rattle.text.proofs.Decimal.{decimal_one, decimal_more}
-use Rattle.putfields.specs.Steps.{Room, Wrote, lead}
-use Rattle.putfields.proofs.WriteLaws.{wrote_none, wrote_two, wrote_as, room_as, room_front, room_rest}
+use Rattle.putfields.specs.Steps.{lead}
 
 -- ---- a name
-module _ (name : List ℕ) (i : ℕ) where
-  name_on : i < length name → drop i name ≡ (get_or name i 0 ∷ []) ++ drop (i + 1) name
-  name_on h = drop-cons name i 0 h ∙ rw (← add-one i)
-
-  pub name_room : {out : List ℕ} {at : ℕ} → i < length name → Room (drop i name) out at → Room (get_or name i 0 ∷ []) out at
-  name_room h k = room_front _ _ (room_as _ (name_on h) k)
-
-  pub name_rest : {out out₁ : List ℕ} {at r₁ : ℕ} → i < length name → Room (drop i name) out at → Wrote (get_or name i 0 ∷ []) out at out₁ r₁
-      → Room (drop (i + 1) name) out₁ r₁
-  name_rest h k p = room_rest _ _ (room_as _ (name_on h) k) p
-
-  pub name_step : {out out₁ out₂ : List ℕ} {at r₁ r₂ : ℕ} → i < length name → Wrote (get_or name i 0 ∷ []) out at out₁ r₁
-      → Wrote (drop (i + 1) name) out₁ r₁ out₂ r₂ → Wrote (drop i name) out at out₂ r₂
-  name_step h p q = wrote_as _ (name_on h) (wrote_two _ _ p q)
-
-  pub name_last : (out : List ℕ) (at : ℕ) → length name ≤ i → Wrote (drop i name) out at out at
-  name_last out at h = wrote_as _ (drop_of_length-le name h) (wrote_none out at)
+pub name_on : (name : List ℕ) (i : ℕ) → i < length name → take (i + 1) name ≡ take i name ++ (get_or name i 0 ∷ [])
+name_on name i h = rw (add-one i) (take-suc name i 0 h)
 
 -- ---- numbers: the digits in front of the last, and what they are
 front : ℕ → List ℕ
@@ -80,6 +64,15 @@ unfolding lead
 lead_some zero z = absurd (z refl)
 lead_some (suc q) z = refl
 
+pub lead_length : (q : ℕ) → (q ≡ 0 → ⊥) → length (lead q) ≡ 1
+lead_length q z = rw (lead_some q z)
+
+pub one_digit : (n : ℕ) → n < 10 → length (decimal n) ≡ 1
+one_digit n h = rw (decimal_one n h)
+
+pub decimal_length : (n : ℕ) → n < 65536 → length (decimal n) ≡ length (lead (n / 10 / 10 / 10 / 10)) + length (lead (n / 10 / 10 / 10)) + length (lead (n / 10 / 10)) + length (lead (n / 10)) + 1
+decimal_length n h = rw (decimal_five n h, length-append (four n) ((48 + n % 10) ∷ []), length-append (three n) (lead (n / 10)), length-append (two n) (lead (n / 10 / 10)), length-append (lead (n / 10 / 10 / 10 / 10)) (lead (n / 10 / 10 / 10)))
+
 -- ---- hex
 -- The bytes of the digits from i on.
 hexes : ℕ → ℕ → List ℕ
@@ -96,71 +89,48 @@ pub hex_digit : (d : ℕ) → d < 16 → get_or (48 ∷ 49 ∷ 50 ∷ 51 ∷ 52 
 unfolding hexes hex_of
 hex_digit d h = hexes_at 16 0 d h ∙ ap hex_of (zero-add d)
 
-pub hex_four : (w : ℕ) → length (hex_word w []) ≡ 4
+pub hex_text : (w : ℕ) {a b c d : ℕ} → a ≡ hex_of (w / 16 / 16 / 16) → b ≡ hex_of (w / 16 / 16 % 16) → c ≡ hex_of (w / 16 % 16) → d ≡ hex_of (w % 16)
+    → hex_word w [] ≡ a ∷ b ∷ c ∷ d ∷ []
 unfolding hex_word
-hex_four w = refl
+hex_text w e f g h = rw (← e, ← f, ← g, ← h)
 
 pub set_sixteen : (img : List ℕ) (i : ℕ) → length (field_text Set img i) ≡ 16
 unfolding field_text hex_word
 set_sixteen img i = refl
 
-pub hex_room : (w n : ℕ) {out : List ℕ} {at : ℕ} → at + (4 + n) ≤ length out → Room (hex_word w []) out at
-hex_room w n h = record { fits = omega (arith, hex_four w) }
-
-pub hex_word_lem : (w : ℕ) {out out₁ out₂ out₃ out₄ : List ℕ} {at r₁ r₂ r₃ r₄ : ℕ} {a b c d : ℕ}
-    → a ≡ hex_of (w / 16 / 16 / 16) → Wrote (a ∷ []) out at out₁ r₁ → b ≡ hex_of (w / 16 / 16 % 16) → Wrote (b ∷ []) out₁ r₁ out₂ r₂
-    → c ≡ hex_of (w / 16 % 16) → Wrote (c ∷ []) out₂ r₂ out₃ r₃ → d ≡ hex_of (w % 16) → Wrote (d ∷ []) out₃ r₃ out₄ r₄ → Wrote (hex_word w []) out at out₄ r₄
-unfolding hex_word
-hex_word_lem w {a = a} {b = b} {c = c} {d = d} e p f q g o h n =
-    wrote_as _ (rw (← e, ← f, ← g, ← h)) (wrote_two (a ∷ []) (b ∷ c ∷ d ∷ []) p (wrote_two (b ∷ []) (c ∷ d ∷ []) q (wrote_two (c ∷ []) (d ∷ []) o n)))
-
 hex_rest : (w : ℕ) (rest : List ℕ) → hex_word w rest ≡ hex_word w [] ++ rest
 unfolding hex_word
 hex_rest w rest = refl
 
-pub set_text : (img : List ℕ) (i a b c d : ℕ) {out out₁ out₂ out₃ out₄ : List ℕ} {at r₁ r₂ r₃ r₄ : ℕ}
-    → a ≡ get_or img (i + 3) 0 → Wrote (hex_word a []) out at out₁ r₁ → b ≡ get_or img (i + 2) 0 → Wrote (hex_word b []) out₁ r₁ out₂ r₂
-    → c ≡ get_or img (i + 1) 0 → Wrote (hex_word c []) out₂ r₂ out₃ r₃ → d ≡ get_or img i 0 → Wrote (hex_word d []) out₃ r₃ out₄ r₄
-    → Wrote (field_text Set img i) out at out₄ r₄
+pub set_text : (img : List ℕ) (i : ℕ) {a b c d : ℕ} → a ≡ get_or img (i + 3) 0 → b ≡ get_or img (i + 2) 0 → c ≡ get_or img (i + 1) 0 → d ≡ get_or img i 0
+    → field_text Set img i ≡ hex_word a [] ++ (hex_word b [] ++ (hex_word c [] ++ hex_word d []))
 unfolding field_text
-set_text img i a b c d e p f q g o h n =
-    wrote_as _ (rw (← e, ← f, ← g, ← h) (hex_rest a _ ∙ ap (λ (l : List ℕ). hex_word a [] ++ l) (hex_rest b _ ∙ ap (λ (l : List ℕ). hex_word b [] ++ l) (hex_rest c _))))
-    (wrote_two (hex_word a []) _ p (wrote_two (hex_word b []) _ q (wrote_two (hex_word c []) _ o n)))
+set_text img i {a} {b} {c} e f g h =
+    rw (← e, ← f, ← g, ← h) (hex_rest a _ ∙ ap (λ (l : List ℕ). hex_word a [] ++ l) (hex_rest b _ ∙ ap (λ (l : List ℕ). hex_word b [] ++ l) (hex_rest c _)))
 
 -- ---- fields
 module _ (kind : Kind) (left end : ℕ) (img : List ℕ) (from : ℕ) where
-  pub fields_on : (left ≡ 0 → ⊥)
+  pub fields_on : 0 < left
       → fields_text kind left end img from ≡ field_text kind img from ++ ((after (left - 1) end ∷ []) ++ fields_text kind (left - 1) end img (from + width_of kind))
   unfolding fields_text
   fields_on z = go left refl
     where
       go : (n : ℕ) → left ≡ n
           → fields_text kind n end img from ≡ field_text kind img from ++ ((after (n - 1) end ∷ []) ++ fields_text kind (n - 1) end img (from + width_of kind))
-      go zero e = absurd (z e)
+      go zero e = absurd (omega (arith, z, e))
       go (suc n) e = rw (sub-one (suc n))
 
-  module _ (z : left ≡ 0 → ⊥) {out : List ℕ} {at : ℕ} (k : Room (fields_text kind left end img from) out at) where
-    pub field_room : Room (field_text kind img from) out at
-    field_room = room_front _ _ (room_as _ (fields_on z) k)
+  pub fields_length : 0 < left
+      → length (fields_text kind left end img from) ≡ length (field_text kind img from) + suc (length (fields_text kind (left - 1) end img (from + width_of kind)))
+  fields_length z = ap length (fields_on z) ∙ length-append (field_text kind img from) _
 
-    module _ {b : ℕ} (e : b ≡ after (left - 1) end) {out₁ : List ℕ} {r₁ : ℕ} (p : Wrote (field_text kind img from) out at out₁ r₁) where
-      behind : Room ((b ∷ []) ++ fields_text kind (left - 1) end img (from + width_of kind)) out₁ r₁
-      behind = rw e (room_rest _ _ (room_as _ (fields_on z) k) p)
-
-      pub after_room : Room (b ∷ []) out₁ r₁
-      after_room = room_front _ _ behind
-
-      pub fields_room : {w : ℕ} → w ≡ width_of kind → {out₂ : List ℕ} {r₂ : ℕ} → Wrote (b ∷ []) out₁ r₁ out₂ r₂ → Room (fields_text kind (left - 1) end img (from + w)) out₂ r₂
-      fields_room f q = rw f (room_rest _ _ behind q)
-
-  pub fields_step : (b w : ℕ) {out out₁ out₂ out₃ : List ℕ} {at r₁ r₂ r₃ : ℕ} → (left ≡ 0 → ⊥)
-      → b ≡ after (left - 1) end → w ≡ width_of kind → Wrote (field_text kind img from) out at out₁ r₁ → Wrote (b ∷ []) out₁ r₁ out₂ r₂
-      → Wrote (fields_text kind (left - 1) end img (from + w)) out₂ r₂ out₃ r₃ → Wrote (fields_text kind left end img from) out at out₃ r₃
-  fields_step b w z e f p q o = wrote_as _ (fields_on z) (wrote_two _ _ p (rw e at (rw f at (wrote_two (b ∷ []) _ q o))))
-
-  pub fields_last : (out : List ℕ) (at : ℕ) → left ≡ 0 → Wrote (fields_text kind left end img from) out at out at
+  pub fields_none : left ≤ 0 → fields_text kind left end img from ≡ []
   unfolding fields_text
-  fields_last out at z = rw z (wrote_none out at)
+  fields_none z = let e : left ≡ 0 = omega arith in rw e
+
+pub one_more : (left w : ℕ) → 0 < left → left * w ≡ (left - 1) * w + w
+one_more zero w z = absurd (omega (arith, z))
+one_more (suc left) w z = rw (sub-one (suc left)) (suc-mul left w)
 
 pub field_number : (kind : Kind) (img : List ℕ) (i w : ℕ) → kind ≡ Number → w ≡ get_or img i 0 → field_text kind img i ≡ decimal w
 unfolding field_text

@@ -1,10 +1,6 @@
 -- What the parts of the writer promise each other.
-use Rattle.std.specs.Prelude.{◌≡◌, List, [], ◌∷◌, ℕ, zero, suc, ◌+◌, ◌%◌, ◌≤◌, length}
+use Rattle.std.specs.Prelude.{◌≡◌, List, [], ◌∷◌, ℕ, zero, suc, ◌+◌, ◌%◌, length}
 use Rattle.std.proofs.lemmas.List.Edits.{sets}
-
--- There is room for these bytes from place `at` on.
-pub record Room (bytes out : List ℕ) (at : ℕ) : Type 0 where
-  pub fits : at + length bytes ≤ length out
 
 -- These bytes were written from place `at` on, and r is the place after them.
 pub record Wrote (bytes out : List ℕ) (at : ℕ) (out' : List ℕ) (r : ℕ) : Type 0 where

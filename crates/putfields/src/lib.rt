@@ -1,59 +1,40 @@
-// Writing the fields of a line: each part is written from a place of the buffer on, where there is room for it, and gives the place after
-// it.
+// Writing the fields of a line: each part is put from a place of the buffer on, where there is room for it, and gives the place after it.
+// Its bytes are written there, or only counted: the sink says which.
 #![tactic(auto)]
 
-ghost use Rattle.std.specs.Prelude.{◌≡◌, [], ◌∷◌, ◌+◌, ◌*◌, ◌<◌, ◌≤◌, length, get_or};
+mod sinks; // sinks.rt: bytes that are written, and bytes that are counted
+
+ghost use Rattle.std.specs.Prelude.{◌≡◌, [], ◌+◌, ◌*◌, ◌<◌, ◌≤◌, length, get_or};
 ghost use Rattle.text.specs.Decimal.{decimal};
 ghost use Rattle.text.specs.Fields.{hex_of, hex_word, field_text, width_of};
 ghost use Rattle.text.specs.Writer.{fields_text};
-ghost use Rattle.putfields.specs.Steps.{Room, Wrote, lead};
+ghost use Rattle.putfields.specs.Steps.{lead};
 
+pub use sinks::{Buffer, Counter, Sink};
 use text::Kind;
 
 // The hex digits.
-const HEX_DIGITS: [u8; 16] = [
-    48, 49, 50, 51, 52, 53, 54, 55, 56, 57, 97, 98, 99, 100, 101, 102,
-];
-
-// A word as a number.
-fn wide(x: u16) -> usize
-    ensures { result ≡ x }
-{
-    x as usize
-}
+const HEX_DIGITS: [u8; 16] = *b"0123456789abcdef";
 
 // The word at a place; 0 where there is none.
 pub fn word(img: &[u16], i: usize) -> usize
     ensures { (result ≡ get_or img.now i 0) × (result < 65536) }
 {
-    if i < img.len() {
-        return wide(img[i]);
-    }
-    0
-}
-
-// One byte.
-pub fn put(out: &mut [u8], at: usize, b: u8) -> usize
-    requires { Room (b ∷ []) out.old at }
-    ensures { Wrote (b ∷ []) out.old at out.new result }
-{
-    out[at] = b;
-    at + 1
+    usize::from(img.get(i).copied().unwrap_or(0))
 }
 
 // A name, which is as long as that of a table at the most: the compiler then lays out the turns one after the other.
-pub fn write_name(out: &mut [u8], at: usize, name: &[u8]) -> usize
-    requires { (length name.now ≤ 7) × (Room name.now out.old at) }
-    ensures { Wrote name.now out.old at out.new result }
+pub fn write_name<S: Sink>(out: &mut [u8], at: usize, name: &[u8]) -> usize
+    requires { (length name.now ≤ 7) × (length name.now ≤ S.room out.old at) }
+    ensures taken { S.takes out.old at name.now out.new result }
+    ensures room { S.room out.new result + length name.now ≡ S.room out.old at }
 {
     let mut to = at;
-    let mut i: usize = 0;
-    while i < text::LONGEST_NAME {
+    for i in 0..text::LONGEST_NAME {
         if name.len() <= i {
             return to;
         }
-        to = put(out, to, name[i]);
-        i += 1;
+        to = S::put(out, to, name[i]);
     }
     to
 }
@@ -67,29 +48,33 @@ fn digit_byte(d: usize) -> u8
 }
 
 // The last digit of what is left of a number; nothing where nothing is left.
-fn write_lead(out: &mut [u8], at: usize, q: usize) -> usize
-    requires { Room (lead q) out.old at }
-    ensures { Wrote (lead q) out.old at out.new result }
+#[tactic(auto, using(crate::proofs::FieldLaws::lead_length))]
+fn write_lead<S: Sink>(out: &mut [u8], at: usize, q: usize) -> usize
+    requires { length (lead q) ≤ S.room out.old at }
+    ensures taken { S.takes out.old at (lead q) out.new result }
+    ensures room { S.room out.new result + length (lead q) ≡ S.room out.old at }
 {
     if q == 0 {
         return at;
     }
-    put(out, at, digit_byte(q % 10))
+    S::put(out, at, digit_byte(q % 10))
 }
 
 // A number in decimal. Most numbers of a pack have one digit.
-pub fn write_decimal(out: &mut [u8], at: usize, n: usize) -> usize
-    requires { (n < 65536) × (Room (decimal n) out.old at) }
-    ensures { Wrote (decimal n) out.old at out.new result }
+#[tactic(auto, using(crate::proofs::FieldLaws::one_digit, crate::proofs::FieldLaws::decimal_length))]
+pub fn write_decimal<S: Sink>(out: &mut [u8], at: usize, n: usize) -> usize
+    requires { (n < 65536) × (length (decimal n) ≤ S.room out.old at) }
+    ensures taken { S.takes out.old at (decimal n) out.new result }
+    ensures room { S.room out.new result + length (decimal n) ≡ S.room out.old at }
 {
     if n < 10 {
-        return put(out, at, digit_byte(n));
+        return S::put(out, at, digit_byte(n));
     }
-    let a = write_lead(out, at, n / 10 / 10 / 10 / 10);
-    let b = write_lead(out, a, n / 10 / 10 / 10);
-    let c = write_lead(out, b, n / 10 / 10);
-    let d = write_lead(out, c, n / 10);
-    put(out, d, digit_byte(n % 10))
+    let a = write_lead::<S>(out, at, n / 10 / 10 / 10 / 10);
+    let b = write_lead::<S>(out, a, n / 10 / 10 / 10);
+    let c = write_lead::<S>(out, b, n / 10 / 10);
+    let d = write_lead::<S>(out, c, n / 10);
+    S::put(out, d, digit_byte(n % 10))
 }
 
 // The byte of a hex digit.
@@ -101,35 +86,38 @@ fn hex_byte(d: usize) -> u8
 }
 
 // A word as four hex digits.
-fn write_hex_word(out: &mut [u8], at: usize, w: usize) -> usize
-    requires { (w < 65536) × (Room (hex_word w []) out.old at) }
-    ensures { Wrote (hex_word w []) out.old at out.new result }
+fn write_hex_word<S: Sink>(out: &mut [u8], at: usize, w: usize) -> usize
+    requires { (w < 65536) × (4 ≤ S.room out.old at) }
+    ensures taken { S.takes out.old at (hex_word w []) out.new result }
+    ensures room { S.room out.new result + 4 ≡ S.room out.old at }
 {
-    let a = put(out, at, hex_byte(w / 16 / 16 / 16));
-    let b = put(out, a, hex_byte(w / 16 / 16 % 16));
-    let c = put(out, b, hex_byte(w / 16 % 16));
-    put(out, c, hex_byte(w % 16))
+    let a = S::put(out, at, hex_byte(w / 16 / 16 / 16));
+    let b = S::put(out, a, hex_byte(w / 16 / 16 % 16));
+    let c = S::put(out, b, hex_byte(w / 16 % 16));
+    S::put(out, c, hex_byte(w % 16))
 }
 
 // A set as 16 hex digits: its four words, highest first.
-fn write_set(out: &mut [u8], at: usize, img: &[u16], i: usize) -> usize
-    requires { (i ≤ 1000000) × (Room (field_text Kind.Set img.now i) out.old at) }
-    ensures { Wrote (field_text Kind.Set img.now i) out.old at out.new result }
+fn write_set<S: Sink>(out: &mut [u8], at: usize, img: &[u16], i: usize) -> usize
+    requires { (i ≤ 1000000) × (16 ≤ S.room out.old at) }
+    ensures taken { S.takes out.old at (field_text Kind.Set img.now i) out.new result }
+    ensures room { S.room out.new result + 16 ≡ S.room out.old at }
 {
-    let a = write_hex_word(out, at, word(img, i + 3));
-    let b = write_hex_word(out, a, word(img, i + 2));
-    let c = write_hex_word(out, b, word(img, i + 1));
-    write_hex_word(out, c, word(img, i))
+    let a = write_hex_word::<S>(out, at, word(img, i + 3));
+    let b = write_hex_word::<S>(out, a, word(img, i + 2));
+    let c = write_hex_word::<S>(out, b, word(img, i + 1));
+    write_hex_word::<S>(out, c, word(img, i))
 }
 
 // The field whose words stand at a place of the image.
-fn write_field(out: &mut [u8], at: usize, img: &[u16], i: usize, kind: Kind) -> usize
-    requires { (i ≤ 1000000) × (Room (field_text kind img.now i) out.old at) }
-    ensures { Wrote (field_text kind img.now i) out.old at out.new result }
+fn write_field<S: Sink>(out: &mut [u8], at: usize, img: &[u16], i: usize, kind: Kind) -> usize
+    requires { (i ≤ 1000000) × (length (field_text kind img.now i) ≤ S.room out.old at) }
+    ensures taken { S.takes out.old at (field_text kind img.now i) out.new result }
+    ensures room { S.room out.new result + length (field_text kind img.now i) ≡ S.room out.old at }
 {
     match kind {
-        Kind::Number => write_decimal(out, at, word(img, i)),
-        Kind::Set => write_set(out, at, img, i),
+        Kind::Number => write_decimal::<S>(out, at, word(img, i)),
+        Kind::Set => write_set::<S>(out, at, img, i),
     }
 }
 
@@ -144,7 +132,7 @@ fn width(kind: Kind) -> usize
 }
 
 // So many fields of one kind, split by commas.
-pub fn write_fields(
+pub fn write_fields<S: Sink>(
     out: &mut [u8],
     at: usize,
     img: &[u16],
@@ -153,16 +141,15 @@ pub fn write_fields(
     n: usize,
     end: u8,
 ) -> usize
-    requires { (i + n * width_of kind ≤ 1000000) × (Room (fields_text kind n end img.now i) out.old at) }
-    ensures { Wrote (fields_text kind n end img.now i) out.old at out.new result }
+    requires { (i + n * width_of kind ≤ 1000000) × (length (fields_text kind n end img.now i) ≤ S.room out.old at) }
+    ensures taken { S.takes out.old at (fields_text kind n end img.now i) out.new result }
+    ensures room { S.room out.new result + length (fields_text kind n end img.now i) ≡ S.room out.old at }
 {
     let mut to = at;
     let mut from = i;
-    let mut left = n;
-    while left != 0 {
-        left -= 1;
-        to = write_field(out, to, img, from, kind);
-        to = put(out, to, rowkinds::after(left, end));
+    for left in (0..n).rev() {
+        to = write_field::<S>(out, to, img, from, kind);
+        to = S::put(out, to, rowkinds::after(left, end));
         from += width(kind);
     }
     to

@@ -1,60 +1,87 @@
--- Lines and tables: the room that each leaves, and the turns of the loops over them; and what the whole text is made of.
-use mathlib.Core.Path.{◌≡◌, refl}
-use mathlib.Core.List.{List, ◌++◌}
-use Prim.Native.Nat.{ℕ, ◌+◌, ◌*◌, ◌-◌, ◌<◌, ◌≤◌}
+-- Rows, lines and tables: what their texts are made of, and how long the parts are.
+use mathlib.Core.Path.{◌≡◌, refl, ap, ◌∙◌}
+use mathlib.Core.Bool.{true}
+use mathlib.Core.List.{List, [], ◌∷◌, ◌++◌}
+use Prim.Native.Nat.{ℕ, zero, suc, ◌+◌, ◌*◌, ◌-◌, ◌<◌, ◌≤◌}
+use native.Mathlib.Numerals.{sub-one}
+use native.Mathlib.Omega.{arith}
+use lib.ListN.{length, get_or, length-append}
 use Rattle.pack.specs.Image.{layout_at}
 use Rattle.text.specs.declared.Form.{Form}
+use Rattle.text.specs.declared.Kind.TheVariants.{Number, Set}
 use Rattle.text.specs.declared.Row.{Row}
-use Rattle.text.specs.Form.{row_width, pack_line, sizes, tables_of, table_at}
-use Rattle.text.specs.Writer.{row_text, lines_text, tables_text, text_of}
-use Rattle.text.proofs.Tables.{tables_from, tables_end}
-use Rattle.putfields.specs.Steps.{Room, Wrote}
-use Rattle.putfields.proofs.WriteLaws.{wrote_none, wrote_two, wrote_as, room_as, room_front, room_rest}
-use Rattle.lengths.specs.Steps.{table_text}
-use Rattle.lengths.proofs.LineSizes.{lines_on, tables_are}
+use Rattle.text.specs.declared.Row.TheVariants.{Numbers, Cells, Sets, Production, Group}
+use Rattle.text.specs.Form.{newline, comma, row_width, sizes, pack_line, tables_of, table_at}
+use Rattle.text.specs.Writer.{fields_text, cells_text, row_text, lines_text, tables_text, text_of}
+use Rattle.text.proofs.Tables.{tables_from, tables_on, tables_end}
+use Rattle.putlines.specs.Steps.{table_text}
+
+-- ---- rows
+module _ (row : Row) (img : List ℕ) (i : ℕ) where
+  pub numbers_row : (n : ℕ) → row ≡ Numbers n → row_text row img i ≡ fields_text Number n newline img i
+  unfolding row_text
+  numbers_row n e = rw e
+
+  pub cells_row : (n : ℕ) → row ≡ Cells n → row_text row img i ≡ cells_text true n 0 img i
+  unfolding row_text
+  cells_row n e = rw e
+
+  pub sets_row : (n : ℕ) → row ≡ Sets n → row_text row img i ≡ fields_text Set n newline img i
+  unfolding row_text
+  sets_row n e = rw e
+
+  pub production_row : (n : ℕ) → row ≡ Production → n ≡ get_or img (i + 1) 0 → row_text row img i ≡ fields_text Number (2 + n) newline img i
+  unfolding row_text
+  production_row n e f = rw (e, f)
+
+  pub group_row : row ≡ Group → row_text row img i ≡ fields_text Set 1 comma img i ++ fields_text Number 1 newline img (i + 4)
+  unfolding row_text
+  group_row e = rw e
+
+  pub group_length : row ≡ Group → length (row_text row img i) ≡ length (fields_text Set 1 comma img i) + length (fields_text Number 1 newline img (i + 4))
+  group_length e = ap length (group_row e) ∙ length-append (fields_text Set 1 comma img i) _
 
 -- ---- lines
 module _ (name : List ℕ) (row : Row) (left : ℕ) (img : List ℕ) (from : ℕ) where
-  module _ (z : left ≡ 0 → ⊥) {out : List ℕ} {at : ℕ} (k : Room (lines_text name row left img from) out at) where
-    pub line_room : Room (name ++ row_text row img from) out at
-    line_room = room_front _ _ (room_as _ (lines_on name row left img from z) k)
-
-    pub lines_room : {w : ℕ} → w ≡ row_width row → {out₁ : List ℕ} {r₁ : ℕ} → Wrote (name ++ row_text row img from) out at out₁ r₁
-        → Room (lines_text name row (left - 1) img (from + w)) out₁ r₁
-    lines_room f p = rw f (room_rest _ _ (room_as _ (lines_on name row left img from z) k) p)
-
-  pub lines_step : (w : ℕ) {out out₁ out₂ : List ℕ} {at r₁ r₂ : ℕ} → (left ≡ 0 → ⊥) → w ≡ row_width row
-      → Wrote (name ++ row_text row img from) out at out₁ r₁ → Wrote (lines_text name row (left - 1) img (from + w)) out₁ r₁ out₂ r₂
-      → Wrote (lines_text name row left img from) out at out₂ r₂
-  lines_step w z f p q = wrote_as _ (lines_on name row left img from z) (wrote_two _ _ p (rw f at q))
-
-  pub lines_last : (out : List ℕ) (at : ℕ) → left ≡ 0 → Wrote (lines_text name row left img from) out at out at
+  pub lines_on : 0 < left → lines_text name row left img from ≡ (name ++ row_text row img from) ++ lines_text name row (left - 1) img (from + row_width row)
   unfolding lines_text
-  lines_last out at z = rw z (wrote_none out at)
+  lines_on z = go left refl
+    where
+      go : (n : ℕ) → left ≡ n → lines_text name row n img from ≡ (name ++ row_text row img from) ++ lines_text name row (n - 1) img (from + row_width row)
+      go zero e = absurd (omega (arith, z, e))
+      go (suc n) e = rw (sub-one (suc n))
+
+  pub lines_length : 0 < left
+      → length (lines_text name row left img from) ≡ length (name ++ row_text row img from) + length (lines_text name row (left - 1) img (from + row_width row))
+  lines_length z = ap length (lines_on z) ∙ length-append (name ++ row_text row img from) _
+
+  pub lines_none : left ≤ 0 → lines_text name row left img from ≡ []
+  unfolding lines_text
+  lines_none z = let e : left ≡ 0 = omega arith in rw e
 
 -- ---- tables
 module _ (form : Form) (img : List ℕ) (i from : ℕ) where
-  module _ (h : i < 9) {out : List ℕ} {at : ℕ} (k : Room (tables_text (tables_from form img i) img from) out at) where
-    pub table_room : Room (table_text form img i from) out at
-    table_room = room_front _ _ (room_as _ (tables_are form img i from h) k)
-
-    pub tables_room : {w : ℕ} → w ≡ (table_at form img i).lines * row_width (table_at form img i).row → {out₁ : List ℕ} {r₁ : ℕ} → Wrote (table_text form img i from) out at out₁ r₁
-        → Room (tables_text (tables_from form img (i + 1)) img (from + w)) out₁ r₁
-    tables_room e p = rw e (room_rest _ _ (room_as _ (tables_are form img i from h) k) p)
-
-  pub table_on : {w : ℕ} {out out₁ out₂ : List ℕ} {at r₁ r₂ : ℕ} → i < 9 → w ≡ (table_at form img i).lines * row_width (table_at form img i).row
-      → Wrote (table_text form img i from) out at out₁ r₁
-      → Wrote (tables_text (tables_from form img (i + 1)) img (from + w)) out₁ r₁ out₂ r₂ → Wrote (tables_text (tables_from form img i) img from) out at out₂ r₂
-  table_on h e p q = wrote_as _ (tables_are form img i from h) (wrote_two _ _ p (rw e at q))
-
-  pub tables_last : (out : List ℕ) (at : ℕ) → 9 ≤ i → Wrote (tables_text (tables_from form img i) img from) out at out at
+  pub tables_are : i < 9 → tables_text (tables_from form img i) img from ≡ table_text form img i from ++ tables_text (tables_from form img (i + 1)) img (from + (table_at form img i).lines * row_width (table_at form img i).row)
   unfolding tables_text
-  tables_last out at h = rw (tables_end form img i h) (wrote_none out at)
+  tables_are h = rw (tables_on form img i h)
+
+  pub tables_length : i < 9
+      → length (tables_text (tables_from form img i) img from) ≡ length (table_text form img i from) + length (tables_text (tables_from form img (i + 1)) img (from + (table_at form img i).lines * row_width (table_at form img i).row))
+  tables_length h = ap length (tables_are h) ∙ length-append (table_text form img i from) _
+
+  pub tables_none : 9 ≤ i → tables_text (tables_from form img i) img from ≡ []
+  unfolding tables_text
+  tables_none h = rw (tables_end form img i h)
 
 -- ---- the whole
+-- The line of the sizes.
 abbrev pub sizes_text : List ℕ → List ℕ
-sizes_text img = lines_text sizes.name sizes.row sizes.lines img 1
+sizes_text img = lines_text (115 ∷ 105 ∷ 122 ∷ 101 ∷ 61 ∷ []) (Numbers 8) 1 img 1
 
-pub text_is : (form : Form) (img : List ℕ) → text_of form img ≡ pack_line form ++ (sizes_text img ++ tables_text (tables_of form img) img layout_at)
-unfolding text_of
-text_is form img = refl
+module _ (form : Form) (img : List ℕ) where
+  pub text_is : text_of form img ≡ pack_line form ++ (sizes_text img ++ tables_text (tables_of form img) img layout_at)
+  unfolding text_of sizes
+  text_is = refl
+
+  pub text_length : length (text_of form img) ≡ length (pack_line form) + (length (sizes_text img) + length (tables_text (tables_of form img) img layout_at))
+  text_length = ap length text_is ∙ length-append (pack_line form) _ ∙ ap (λ (n : ℕ). length (pack_line form) + n) (length-append (sizes_text img) _)

@@ -1,10 +1,10 @@
--- The whole text: how many bytes it has, and what is given and left.
-use mathlib.Core.Path.{◌≡◌, refl, ap, ◌∙◌}
-use mathlib.Core.List.{List, ◌++◌}
-use Prim.Native.Nat.{ℕ, ◌+◌, ◌<◌, ◌≤◌}
+-- The whole text: what is given and left.
+use mathlib.Core.Path.{◌≡◌}
+use mathlib.Core.List.{List}
+use Prim.Native.Nat.{ℕ, ◌<◌, ◌≤◌}
 use native.Mathlib.Nat.{zero-add}
 use native.Mathlib.Omega.{arith}
-use lib.ListN.{length, length-append}
+use lib.ListN.{length}
 use lib.Seq.{sets-eq}
 use borrow.Author.Tests.{lt-ltb, le-ltb}
 use Rattle.numbers.specs.declared.Answer.{Answer}
@@ -12,28 +12,11 @@ use Rattle.numbers.specs.declared.Verdict.TheVariants.{Good, Wrong}
 use Rattle.numbers.specs.Codes.{done, text_too_long, room_too_small, wrong_shape, longest_text}
 use Rattle.numbers.specs.Front.{Delivers, buffer_after}
 use Rattle.numbers.proofs.Laws.{answer, deliver_small, deliver_done}
-use Rattle.pack.specs.Image.{layout_at}
 use Rattle.shape.specs.Shape.{shape}
 use Rattle.text.specs.declared.Form.{Form}
-use Rattle.text.specs.declared.Form.TheVariants.{One, Two}
-use Rattle.text.specs.Form.{pack_line, tables_of}
-use Rattle.text.specs.Writer.{tables_text, text_of, write_good, write}
+use Rattle.text.specs.Writer.{text_of, write_good, write}
 use Rattle.putfields.specs.Steps.{Wrote}
-use Rattle.putlines.proofs.LineLaws.{sizes_text, text_is}
 
--- ---- how many bytes
-pack_seven : (form : Form) → length (pack_line form) ≡ 7
-unfolding pack_line
-pack_seven One = refl
-pack_seven Two = refl
-
-pub text_length : (form : Form) (img : List ℕ) → length (text_of form img) ≡ 7 + length (sizes_text img) + length (tables_text (tables_of form img) img layout_at)
-text_length form img =
-    let tables = tables_text (tables_of form img) img layout_at in
-    let whole = ap length (text_is form img) ∙ length-append (pack_line form) (sizes_text img ++ tables) in
-    omega (arith, whole, pack_seven form, length-append (sizes_text img) tables)
-
--- ---- what is given and left
 module _ (form : Form) (img b : List ℕ) (room : ℕ) {size : ℕ} (e : size ≡ length (text_of form img)) where
   pub text_long : longest_text < size → Delivers (write_good form img room) b b (answer text_too_long 0)
   unfolding write_good

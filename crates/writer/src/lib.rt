@@ -8,18 +8,19 @@ ghost use Rattle.text.specs.declared.Form.TheVariants.{One, Two};
 ghost use Rattle.text.specs.Writer.{text_of, write_good, write};
 
 use numbers::{Answer, Verdict};
-use text::{Form, Row};
+use putfields::{Buffer, Counter};
+use putlines::write_text;
+use text::Form;
 
-// The bytes of the text of an image: 7 for the first line, and 5 for the name of the second.
+// The bytes of the text of an image.
 fn text_size(img: &[u16], form: Form) -> usize
     requires { Sized img.now }
     ensures { result ≡ length (text_of form img.now) }
 {
-    let sizes = lengths::lines_size(img, 1, 5, Row::Numbers(8), 1);
-    7 + sizes + lengths::tables_size(img, form)
+    write_text::<Counter>(&mut [], 0, img, form)
 }
 
-// The text of an image of good shape: its length first, by a walk that writes nothing, and then its bytes.
+// The text of an image of good shape: its length first, by a walk that counts, and then its bytes.
 pub fn write_good(img: &[u16], buffer: &mut [u8], form: Form) -> Answer
     requires { Sized img.now }
     ensures { Delivers (write_good form img.now (length buffer.old)) buffer.old buffer.new result }
@@ -37,7 +38,7 @@ pub fn write_good(img: &[u16], buffer: &mut [u8], form: Form) -> Answer
             number: size,
         };
     }
-    let end = putlines::write_text(buffer, img, form);
+    let end = write_text::<Buffer>(buffer, 0, img, form);
     Answer {
         code: numbers::DONE,
         number: end,

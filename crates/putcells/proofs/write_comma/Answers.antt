@@ -1,13 +1,9 @@
--- `putcells::write_comma` meets its contract.
-use Rattle.putfields.proofs.WriteLaws.{wrote_none, wrote_as, room_as}
+use native.Mathlib.Omega.{arith}
 use Rattle.putcells.proofs.CellLaws.{comma_none, comma_some}
 use Rattle.putcells.proofs.write_comma.Goals as goal
 
 pub returns-then-first : goal.returns-then-first
-returns-then-first c = wrote_as _ (comma_none _ c.if-first.true) (wrote_none _ _)
+returns-then-first g c = rw (comma_none _ c.if-first.true) (record { taken = g.met.S.Sink.takes_none _ _; room = omega arith })
 
-pub put-requires : goal.put-requires
-put-requires c = room_as _ (comma_some _ c.if-first.false) c.requires
-
-pub returns : goal.returns
-returns c = wrote_as _ (comma_some _ c.if-first.false) c.put.ensures
+pub returns-clause-taken : goal.returns-clause-taken
+returns-clause-taken g c = rw (comma_some _ c.if-first.false) c.put.ensures.taken

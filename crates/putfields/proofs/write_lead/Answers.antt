@@ -1,14 +1,9 @@
--- `putfields::write_lead` meets its contract.
-use mathlib.Core.Path.{◌∙◌}
-use Rattle.putfields.proofs.WriteLaws.{wrote_none, wrote_as, room_as}
+use native.Mathlib.Omega.{arith}
 use Rattle.putfields.proofs.FieldLaws.{lead_none, lead_some}
 use Rattle.putfields.proofs.write_lead.Goals as goal
 
 pub returns-then-q-eq0 : goal.returns-then-q-eq0
-returns-then-q-eq0 c = wrote_as _ (lead_none _ c.if-q-eq0.true) (wrote_none _ _)
+returns-then-q-eq0 g c = rw (lead_none _ c.if-q-eq0.true) (record { taken = g.met.S.Sink.takes_none _ _; room = omega arith })
 
-pub put-requires : goal.put-requires
-put-requires c = room_as _ (lead_some _ c.if-q-eq0.false ∙ rw (← c.digit_byte.ensures)) c.requires
-
-pub returns : goal.returns
-returns c = wrote_as _ (lead_some _ c.if-q-eq0.false ∙ rw (← c.digit_byte.ensures)) c.put.ensures
+pub returns-clause-taken : goal.returns-clause-taken
+returns-clause-taken g c = rw (lead_some _ c.if-q-eq0.false, ← c.digit_byte.ensures) c.put.ensures.taken

@@ -1,6 +1,4 @@
--- `putlines::write_line` meets its contract.
-use Rattle.putfields.proofs.WriteLaws.{wrote_two}
 use Rattle.putlines.proofs.write_line.Goals as goal
 
-pub returns : goal.returns
-returns c = wrote_two _ _ c.write_name-to.ensures c.write_row.ensures
+pub returns-clause-taken : goal.returns-clause-taken
+returns-clause-taken g c = g.met.S.Sink.takes_more _ _ _ _ _ _ _ _ c.write_name-to.ensures.taken c.write_row.ensures.taken

@@ -1,4 +1,3 @@
--- `writer::write_good` meets its contract.
 use mathlib.Core.Path.{refl}
 use Rattle.writer.proofs.Laws.{text_long, text_small, text_done}
 use Rattle.writer.proofs.write_good.Goals as goal
@@ -11,4 +10,4 @@ returns-then-buffer-size c = text_small _ _ _ _ c.text_size-size.ensures c.if-si
 
 pub returns : goal.returns
 returns c =
-    text_done _ _ _ _ c.text_size-size.ensures c.if-size-gt-LONGEST_TEXT.false _ _ refl c.if-buffer-size.false c.write_text-end.ensures
+    text_done _ _ _ _ c.text_size-size.ensures c.if-size-gt-LONGEST_TEXT.false _ _ refl c.if-buffer-size.false c.write_text-end.ensures.taken

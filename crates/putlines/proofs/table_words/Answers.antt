@@ -1,7 +1,7 @@
--- `lengths::table_words` meets its contract.
+-- `putlines::table_words` meets its contract.
 use native.Mathlib.Omega.{arith}
 use Rattle.text.proofs.Tables.{row_fits}
-use Rattle.lengths.proofs.table_words.Goals as goal
+use Rattle.putlines.proofs.table_words.Goals as goal
 
 pub row_width-requires : goal.row_width-requires
 row_width-requires c =

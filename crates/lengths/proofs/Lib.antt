@@ -1,2 +1,0 @@
-pub mod FieldSizes
-pub mod LineSizes

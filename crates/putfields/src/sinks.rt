@@ -1,0 +1,62 @@
+// What becomes of the bytes of a text: they are written to lent bytes, or only counted.
+ghost use Rattle.std.specs.Prelude.{◌≡◌, ℕ, List, [], ◌∷◌, ◌++◌, ◌+◌, ◌-◌, ◌^◌, ◌<◌, length};
+ghost use Rattle.putfields.specs.Steps.{Wrote};
+
+// What becomes of the bytes of a text, which are put one after the other. The place goes from part to part as a number: in a sink beside the
+// lent bytes it would go through memory for each byte.
+pub trait Sink {
+    // How many bytes more there is room for.
+    ghost room: { List ℕ → ℕ → ℕ };
+
+    // What the lent bytes and the place are after these bytes.
+    ghost takes: { List ℕ → ℕ → List ℕ → List ℕ → ℕ → Type 0 };
+
+    // One byte: the place after it.
+    fn put(out: &mut [u8], at: usize, b: u8) -> usize
+        requires { 0 < room out.old at }
+        ensures taken { takes out.old at (b ∷ []) out.new result }
+        ensures room { room out.new result + 1 ≡ room out.old at };
+
+    ghost takes_none: { (out : List ℕ) (at : ℕ) → takes out at [] out at };
+
+    ghost takes_more: { (a : List ℕ) (i : ℕ) (b : List ℕ) (j : ℕ) (c : List ℕ) (k : ℕ) (xs ys : List ℕ) → takes a i xs b j → takes b j ys c k → takes a i (xs ++ ys) c k };
+}
+
+// Writes the bytes from the place on.
+pub struct Buffer;
+
+impl Sink for Buffer {
+    ghost use Rattle.putfields.specs.Writes.{wrote_none, wrote_two};
+
+    ghost room = { λ out at. length out - at };
+
+    ghost takes = { λ out at xs written end. Wrote xs out at written end };
+
+    ghost takes_none = { λ out at. wrote_none out at };
+
+    ghost takes_more = { λ a i b j c k xs ys p q. wrote_two xs ys p q };
+
+    fn put(out: &mut [u8], at: usize, b: u8) -> usize {
+        out[at] = b;
+        at + 1
+    }
+}
+
+// Counts the bytes, and writes none.
+pub struct Counter;
+
+impl Sink for Counter {
+    ghost use Rattle.std.proofs.Common.{arith, length-append};
+
+    ghost room = { λ out at. 2 ^ 63 - at };
+
+    ghost takes = { λ out at xs written end. end ≡ at + length xs };
+
+    ghost takes_none = { λ out at. Prim.omega arith };
+
+    ghost takes_more = { λ a i b j c k xs ys p q. Prim.omega (arith, length-append xs ys) };
+
+    fn put(_out: &mut [u8], at: usize, _b: u8) -> usize {
+        at + 1
+    }
+}
