@@ -1,15 +1,15 @@
--- What is handed to a caller: all of it at the front of the buffer, or nothing. Assumes nothing.
-use mathlib.Core.Path.{◌≡◌, refl, sym}
-use mathlib.Core.List.{List, [], ◌∷◌, ◌++◌, append_assoc}
-use Prim.Native.Nat.{ℕ, suc, ◌+◌, ◌<◌, ◌≤◌}
-use native.Mathlib.Numerals.{add-one}
-use native.Mathlib.Omega.{arith}
-use lib.ListN.{length, get_or, take, drop, set}
-use lib.Seq.{drop-cons, take-suc, take_all, set_at, length-take-le}
+-- What is handed to a caller: all of it at the front of the buffer, or nothing; and a result is known by its verdict. Assumes nothing.
+use mathlib.Core.Path.{◌≡◌, refl, ap}
+use mathlib.Core.List.{List}
+use Prim.Native.Nat.{ℕ, ◌<◌, ◌≤◌}
+use lib.ListN.{length}
 use borrow.Author.Tests.{lt-ltb, le-ltb}
+use Rattle.std.specs.Prelude.{Result, Ok, Err}
 use Rattle.numbers.specs.Codes.{done, room_too_small}
 use Rattle.numbers.specs.Front.{Delivers, refuse, deliver, front}
+use Rattle.numbers.specs.Verdicts.{verdict_of}
 use Rattle.numbers.specs.declared.Answer.{Answer}
+use Rattle.numbers.specs.declared.WrongWord.{WrongWord}
 
 abbrev pub answer : ℕ → ℕ → Answer
 answer code number = record { code = code; number = number }
@@ -31,15 +31,9 @@ module _ (output : List ℕ) (room : ℕ) where
       → Delivers (deliver output room) buffer buffer' (answer done n)
   deliver_done buffer buffer' n h e q = rw (deliver_all h, e) (record { given = refl; left = q })
 
--- ---- the copy, word by word
-module _ (words b b₀ : List ℕ) (i : ℕ) (l : length words ≤ length b₀) (e : b ≡ take i words ++ drop i b₀) where
-  pub copy_on : i < length words → set b i (get_or words i 0) ≡ take (i + 1) words ++ drop (i + 1) b₀
-  copy_on h =
-      let z : length (take i words) ≡ i = length-take-le i words (omega arith) in
-      rw (e, drop-cons b₀ i 0 (omega arith), set_at (take i words) (get_or b₀ i 0) (drop (suc i) b₀) (get_or words i 0) i z, add-one i, take-suc words i 0 h)
-      (sym (append_assoc (take i words) (get_or words i 0 ∷ []) (drop (suc i) b₀)))
-
-  pub copy_done : length words ≤ i → i ≤ length words → Delivers (deliver words (length b₀)) b₀ b (answer done i)
-  copy_done h k =
-      let z : i ≡ length words = omega arith in
-      deliver_done words (length b₀) b₀ b i l z (rw (take_all i words h, z) at e)
+-- ---- results of the same verdict are the same
+pub same_verdict : (a b : Result (Unit {0}) WrongWord) → verdict_of a ≡ verdict_of b → a ≡ b
+same_verdict (Ok u) (Ok v) e = refl
+same_verdict (Ok u) (Err w) e = cc
+same_verdict (Err v) (Ok u) e = cc
+same_verdict (Err v) (Err w) e = let z : v.0 ≡ w.0 = cc in ap (λ n. Err (record { 0 = n })) z

@@ -4,7 +4,7 @@
 
 ghost use Rattle.std.specs.Prelude.{◌≡◌, length};
 ghost use Rattle.numbers.specs.Front.{Delivers, deliver};
-ghost use Rattle.numbers.specs.Verdicts.{is_wrong, verdict_code, verdict_place};
+ghost use Rattle.numbers.specs.Verdicts.{verdict_of, is_wrong, verdict_code, verdict_place};
 
 pub const DONE: u8 = 0;
 
@@ -45,40 +45,40 @@ pub const MOST_RECORDS: usize = 65535;
 
 pub const MOST_STATES: usize = 512;
 
-// What the shape test says: every word is right, or this is the place of the first wrong one.
-#[derive(Clone, Copy)]
-pub enum Verdict {
-    Good,
-    Wrong(usize),
-}
+// The place of the first wrong word, where the shape test finds one.
+#[derive(Clone, Copy, Debug, PartialEq, Eq)]
+pub struct WrongWord(pub usize);
 
 // Whether some word is wrong.
-pub fn is_wrong(v: Verdict) -> bool
-    ensures { result ≡ is_wrong v }
+#[tactic(auto, unfolding(crate::specs::Verdicts::is_wrong))]
+pub fn is_wrong(v: Result<(), WrongWord>) -> bool
+    ensures { result ≡ is_wrong (verdict_of v) }
 {
     match v {
-        Verdict::Good => false,
-        Verdict::Wrong(_) => true,
+        Ok(()) => false,
+        Err(_) => true,
     }
 }
 
-// The code of a verdict.
-pub fn verdict_code(v: Verdict) -> u8
-    ensures { result ≡ verdict_code v }
+// The code of what the shape test says.
+#[tactic(auto, unfolding(crate::specs::Verdicts::verdict_code))]
+pub fn verdict_code(v: Result<(), WrongWord>) -> u8
+    ensures { result ≡ verdict_code (verdict_of v) }
 {
     match v {
-        Verdict::Good => DONE,
-        Verdict::Wrong(_) => WRONG_SHAPE,
+        Ok(()) => DONE,
+        Err(_) => WRONG_SHAPE,
     }
 }
 
 // The place of the first wrong word, and 0 where there is none.
-pub fn verdict_place(v: Verdict) -> usize
-    ensures { result ≡ verdict_place v }
+#[tactic(auto, unfolding(crate::specs::Verdicts::verdict_place))]
+pub fn verdict_place(v: Result<(), WrongWord>) -> usize
+    ensures { result ≡ verdict_place (verdict_of v) }
 {
     match v {
-        Verdict::Good => 0,
-        Verdict::Wrong(place) => place,
+        Ok(()) => 0,
+        Err(WrongWord(place)) => place,
     }
 }
 
@@ -100,13 +100,9 @@ pub fn deliver(words: &[u16], buffer: &mut [u16]) -> Answer
             number: size,
         };
     }
-    let mut i: usize = 0;
-    while i < size {
-        buffer[i] = words[i];
-        i += 1;
-    }
+    buffer[..size].copy_from_slice(words);
     Answer {
         code: DONE,
-        number: i,
+        number: size,
     }
 }

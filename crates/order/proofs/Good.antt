@@ -7,7 +7,7 @@ use native.Mathlib.Omega.{arith}
 use lib.Dec.{eqb, leb}
 use borrow.Author.Tests.{ne_eqb, leb-true, ltb-true, eqb-true}
 use Rattle.sets.specs.Sets.{has, lacks, is_empty, meet}
-use Rattle.numbers.specs.declared.Verdict.TheVariants.{Good}
+use Rattle.numbers.specs.Verdicts.{Good}
 use Rattle.pack.specs.Image.{terminals, scan_states, classes, ranges, largest_image, greatest_byte, layout, move, lo, hi, range_class, acc, rej, poss, class_in, class_of, needed}
 use Rattle.order.specs.Shape.{each, head_rules, parser_rules, scanner_rules, layout_rule, cell_rule, move_rules, range_rule, scan_rule, shape}
 use Rattle.rules.specs.Rules.{fits, above_previous, empty_at_start}

@@ -10,7 +10,7 @@ use Rattle.sets.specs.Sets.{has, member, lacks}
 use Rattle.words.specs.declared.Action.{Action}
 use Rattle.words.specs.declared.Action.TheVariants.{Error, Accept, Shift, Reduce}
 use Rattle.pack.specs.Image.{most_symbols, terminals, nonterminals, productions, states, groups, layout, lhs, len, act, action_of, goto, group_set, chosen}
-use Rattle.numbers.specs.declared.Verdict.TheVariants.{Good}
+use Rattle.numbers.specs.Verdicts.{Good}
 use Rattle.order.specs.Shape.{each, parser_rules, scanner_rules, prod_rule, act_rule, cell_rule, goto_rules, group_rule, shape}
 use Rattle.rules.specs.Rules.{act_right}
 use Rattle.order.proofs.Laws.{both, rule_good, and_then_good, each_at}

@@ -3,16 +3,14 @@ use mathlib.Core.Path.{◌≡◌, refl, sym, ◌∙◌}
 use mathlib.Core.Bool.{Bool, true, false, ◌&&◌}
 use mathlib.Core.List.{List}
 use Prim.Native.Nat.{ℕ, zero, suc, ◌+◌, ◌*◌, ◌-◌, ◌<◌, ◌≤◌, min}
-use native.Mathlib.Nat.{not-suc-le-zero, le_of_suc-le-suc, add-zero, sub-zero, zero-lt-suc, zero-add, zero-mul, suc-mul, add_comm, mul-le-mul}
+use native.Mathlib.Nat.{not-suc-le-zero, le_of_suc-le-suc, add-zero, zero-lt-suc, zero-add, zero-mul, suc-mul, add_comm, mul-le-mul}
 use native.Mathlib.Numerals.{add-one}
 use native.Mathlib.Omega.{arith}
-use lib.ListN.{length}
-use borrow.Author.Tests.{eq-eqb, ne_eqb, le-leb, lt-leb, eqb-true, leb-true, ltb-true}
-use Rattle.numbers.specs.declared.Verdict.{Verdict}
-use Rattle.numbers.specs.declared.Verdict.TheVariants.{Good, Wrong}
-use Rattle.pack.specs.Image.{word, size_words, terminals, productions, ranges, groups, states, nonterminals, scan_states, classes, goto_start, move_start, least_size, greatest_size, needed}
-use Rattle.numbers.specs.Verdicts.{is_wrong}
-use Rattle.order.specs.Shape.{rule, and_then, each, size_rule, length_rule, head_rules, layout_rule, dom_rule, prod_rule, act_rule, cell_rule, goto_rules, move_rules, range_rule, scan_rule, group_rule, parser_rules, scanner_rules, shape}
+use lib.ListN.{length, get_or-eq_default}
+use borrow.Author.Tests.{eq-eqb, ne_eqb, eqb-true, leb-true, ltb-true}
+use Rattle.numbers.specs.Verdicts.{Verdict, Good, Wrong}
+use Rattle.pack.specs.Image.{word, size_words, terminals, states, nonterminals, scan_states, classes, goto_start, move_start, least_size, greatest_size, needed}
+use Rattle.order.specs.Shape.{rule, and_then, each, size_rule, length_rule, head_rules, dom_rule, act_rule, cell_rule, goto_rules, move_rules, scan_rule}
 use Rattle.order.specs.declared.Ruled.TheVariants.{Dom, Act, Scan}
 use Rattle.order.specs.Rows.{row_rule}
 use Rattle.pack.specs.Laid.{Sized, Laid}
@@ -33,45 +31,30 @@ unfolding and_then
 and_then_good Good b e = (refl, e)
 and_then_good (Wrong p) b e = let z : ◌≡◌ {A = ℕ} 0 1 = cc in absurd (omega arith)
 
-pub is_good : (v : Verdict) → is_wrong v ≡ false → v ≡ Good
-unfolding is_wrong
-is_good Good e = refl
-is_good (Wrong p) e = let z : ◌≡◌ {A = ℕ} 0 1 = cc in absurd (omega arith)
+-- A chain of tests: the first that is wrong is the answer, and one that is good leaves the answer to the next.
+pub then_wrong : (a b : Verdict) (p : ℕ) → a ≡ Wrong p → and_then a b ≡ Wrong p
+unfolding and_then
+then_wrong a b p e = rw e refl
 
-pub is_wrong_lem : (v : Verdict) → is_wrong v ≡ true → (p : ℕ) × (v ≡ Wrong p)
-unfolding is_wrong
-is_wrong_lem Good e = let z : ◌≡◌ {A = ℕ} 0 1 = cc in absurd (omega arith)
-is_wrong_lem (Wrong p) e = (p, refl)
+pub then_good : (a b : Verdict) → a ≡ Good → and_then a b ≡ b
+unfolding and_then
+then_good a b e = rw e refl
 
-pub wrong_is : (p : ℕ) → is_wrong (Wrong p) ≡ true
-unfolding is_wrong
-wrong_is p = refl
+-- A loop over the tests i, i+1, .. below e: a test fails, a test holds, it is at the end.
+left_over : (e i : ℕ) → i < e → e - i ≡ suc (e - (i + 1))
+left_over e i h = omega arith
 
-pub good_is : is_wrong Good ≡ false
-unfolding is_wrong
-good_is = refl
+pub each_wrong : (test : ℕ → Verdict) (e i place : ℕ) → i < e → test i ≡ Wrong place → each test (e - i) i ≡ Wrong place
+unfolding each
+each_wrong test e i place h t = rw (left_over e i h, each, t) refl
 
--- A loop over the tests i, i+1, .. below e: it is at the end, a test fails, a test holds.
-module _ (test : ℕ → Verdict) (e i : ℕ) where
-  pub each_end : e ≤ i → each test (e - i) i ≡ Good
-  unfolding each
-  each_end h = let z : e - i ≡ 0 = omega arith in rw z
+pub each_right : (test : ℕ → Verdict) (e i : ℕ) → i < e → test i ≡ Good → each test (e - i) i ≡ each test (e - (i + 1)) (i + 1)
+unfolding each
+each_right test e i h t = rw (left_over e i h, each, t) refl
 
-  module _ (h : i < e) (v : Verdict) (t : v ≡ test i) where
-    pub each_hit : is_wrong v ≡ true → each test (e - i) i ≡ v
-    unfolding each
-    each_hit g =
-        let z : e - i ≡ suc (e - (i + 1)) = omega arith in
-        let w = is_wrong_lem v g in
-        rw z (simp (each, sym t ∙ w.1) (sym w.1))
-
-    pub each_on : is_wrong v ≡ false → each test (e - i) i ≡ each test (e - (i + 1)) (i + 1)
-    unfolding each
-    each_on g = let z : e - i ≡ suc (e - (i + 1)) = omega arith in rw z (simp (each, sym t ∙ is_good v g))
-
--- Where the loop begins, its end being read from the image.
-pub each_start : (test : ℕ → Verdict) {n m : ℕ} → n ≡ m → each test m 0 ≡ each test (n - 0) 0
-each_start test e = rw (sub-zero, e)
+pub each_over : (test : ℕ → Verdict) (e i : ℕ) → e ≤ i → each test (e - i) i ≡ Good
+unfolding each
+each_over test e i h = let z : e - i ≡ 0 = omega arith in rw z refl
 
 -- Every test holds exactly where all of them are good.
 pub each_all : (test : ℕ → Verdict) (n k : ℕ) → ((i : ℕ) → i < n → test (k + i) ≡ Good) → each test n k ≡ Good
@@ -94,6 +77,10 @@ each_good test (suc n) k e i l = go (each_good test n (k + 1)) (test k) refl e i
 
 pub each_at : (test : ℕ → Verdict) (n : ℕ) → each test n 0 ≡ Good → (i : ℕ) → i < n → test i ≡ Good
 each_at test n e i l = rw (zero-add i) at (each_good test n 0 e i l)
+
+-- A loop that ends before tests that all hold.
+pub each_rest : (test : ℕ → Verdict) (e i : ℕ) → ((j : ℕ) → i ≤ j → j < e → test j ≡ Good) → each test (e - i) i ≡ Good
+each_rest test e i h = each_all test (e - i) i (λ j l. h (i + j) (omega arith) (omega arith))
 
 -- Tests in rows are tests one after the other.
 pub each_append : (test : ℕ → Verdict) (a b i : ℕ) → each test (a + b) i ≡ and_then (each test a i) (each test b (i + a))
@@ -140,16 +127,6 @@ each_rows test w (suc r) s =
         → each (λ q. each (λ c. test (q * w + c)) w 0) (suc r) s ≡ and_then (each test w (s * w)) (each test (r * w) (s * w + w))
     go Good e f ih = simp (each, e, sym f ∙ e, and_then) ih
     go (Wrong p) e f ih = simp (each, e, sym f ∙ e, and_then)
-
--- A word that is too large, and one that is not.
-module _ (img : List ℕ) (most at : ℕ) {w : ℕ} (e : w ≡ word img at) where
-  pub cell_wrong : most < w → Wrong at ≡ cell_rule img most at
-  unfolding cell_rule rule
-  cell_wrong h = simp (cell_rule, rule, ← e, lt-leb _ _ h)
-
-  pub cell_good : w ≤ most → Good ≡ cell_rule img most at
-  unfolding cell_rule rule
-  cell_good h = simp (cell_rule, rule, ← e, le-leb _ _ h)
 
 -- Sizes within their limits are sized, and an image of that length is laid out.
 size_good : (img : List ℕ) → each (size_rule img) size_words 1 ≡ Good → (i : ℕ) → i < size_words
@@ -199,51 +176,26 @@ head_laid img e =
     let r = and_then_good _ _ (and_then_good _ _ e).1 in
     record { sized = sizes_sized img r.0; whole = eqb-true _ _ (rule_good _ _ r.1) }
 
--- A chain of tests: the first that is wrong is the answer, and one that is good leaves the answer to the next. Here and below a law
--- takes what `is_wrong` says of a verdict, and then what the test says of that.
-then_wrong : {v a : Verdict} {x : Bool} (b : Verdict) → v ≡ a → x ≡ is_wrong v → x ≡ true → v ≡ and_then a b
-unfolding and_then
-then_wrong b e s w = let p = is_wrong_lem _ (sym s ∙ w) in rw (← e, p.1)
+-- There is no word 0.
+pub no_word : (img : List ℕ) → length img ≡ 0 → word img 0 ≡ 0
+no_word img h = get_or-eq_default img 0 (omega arith)
 
-then_good : {v a : Verdict} {x : Bool} (b : Verdict) → v ≡ a → x ≡ is_wrong v → x ≡ false → b ≡ and_then a b
-unfolding and_then
-then_good b e s g = rw (← e, is_good _ (sym s ∙ g))
+-- The length of the whole: it is short, it is long, it is right.
+pub length_short : (img : List ℕ) → length img < needed img → length_rule img ≡ Wrong (length img)
+unfolding length_rule rule
+length_short img h =
+    let m : min (length img) (needed img) ≡ length img = omega arith in
+    simp (length_rule, ne_eqb (length img) (needed img) (λ z. omega arith), rule, m)
 
--- The ways out of the test of word 0, the sizes and the total length.
-module _ (img : List ℕ) {w : ℕ} (e : w ≡ word img 0) where
-  pub head_first : (w ≡ 1 → ⊥) → Wrong 0 ≡ head_rules img
-  unfolding head_rules and_then rule
-  head_first n = simp (head_rules, ← e, ne_eqb w 1 n, rule, and_then)
+pub length_long : (img : List ℕ) → needed img < length img → length_rule img ≡ Wrong (needed img)
+unfolding length_rule rule
+length_long img h =
+    let m : min (length img) (needed img) ≡ needed img = omega arith in
+    simp (length_rule, ne_eqb (length img) (needed img) (λ z. omega arith), rule, m)
 
-  module _ (o : w ≡ 1) {v : Verdict} (s : v ≡ each (size_rule img) size_words 1) where
-    pub head_size : {x : Bool} → x ≡ is_wrong v → x ≡ true → v ≡ head_rules img
-    unfolding head_rules and_then rule
-    head_size i g = simp (head_rules, ← e, eq-eqb w 1 o, rule, and_then) (then_wrong _ s i g)
-
-    module _ {x : Bool} (i : x ≡ is_wrong v) (g : x ≡ false) where
-      to_length : length_rule img ≡ head_rules img
-      unfolding head_rules and_then rule
-      to_length = simp (head_rules, ← e, eq-eqb w 1 o, rule, and_then) (then_good _ s i g)
-
-      pub head_sized : Sized img
-      head_sized = sizes_sized img (sym s ∙ is_good v (sym i ∙ g))
-
-      module _ {n : ℕ} (f : n ≡ needed img) where
-        pub head_short : length img < n → Wrong (length img) ≡ head_rules img
-        unfolding length_rule rule
-        head_short h =
-            let m : min (length img) (needed img) ≡ length img = omega arith in
-            simp (length_rule, ne_eqb (length img) (needed img) (λ z. omega arith), rule, m) refl ∙ to_length
-
-        pub head_long : n < length img → Wrong n ≡ head_rules img
-        unfolding length_rule rule
-        head_long h =
-            let m : min (length img) (needed img) ≡ n = omega arith in
-            simp (length_rule, ne_eqb (length img) (needed img) (λ z. omega arith), rule, m) refl ∙ to_length
-
-        pub head_right : n ≤ length img → length img ≤ n → Good ≡ head_rules img
-        unfolding length_rule rule
-        head_right h k = simp (length_rule, eq-eqb (length img) (needed img) (omega arith), rule) refl ∙ to_length
+pub length_right : (img : List ℕ) → needed img ≤ length img → length img ≤ needed img → length_rule img ≡ Good
+unfolding length_rule rule
+length_right img h k = simp (length_rule, eq-eqb (length img) (needed img) (omega arith), rule)
 
 -- The goto table and the move table are each read as one run of words.
 flat : (img : List ℕ) (most start w r : ℕ)
@@ -259,82 +211,15 @@ module _ (img : List ℕ) {v : Verdict} {n start most : ℕ} (e : v ≡ each (λ
   unfolding move_rules
   move_cells en es em = e ∙ rw (en, es, em) (sym (flat img (scan_states img) (move_start img) (classes img) (scan_states img)))
 
--- The ways out of the chains: a table is wrong where all before it are good, or the last one gives the answer.
-module _ (img : List ℕ) {a : Verdict} (ea : a ≡ layout_rule img) where
-  pub parser_1 : {x : Bool} → x ≡ is_wrong a → x ≡ true → a ≡ parser_rules img
-  unfolding parser_rules
-  parser_1 i w = then_wrong _ ea i w
+-- The tables that are walked row by row where a quick pass says no.
+pub dom_rows : (img : List ℕ) (n : ℕ) → each (row_rule img Dom) n 0 ≡ each (dom_rule img) n 0
+unfolding row_rule
+dom_rows img n = refl
 
-  module _ {xa : Bool} (ia : xa ≡ is_wrong a) (ga : xa ≡ false) {b : Verdict} {t : ℕ} (eb : b ≡ each (row_rule img Dom) t 0) (et : t ≡ terminals img) where
-    dom_rows : b ≡ each (dom_rule img) (terminals img) 0
-    unfolding row_rule
-    dom_rows = eb ∙ rw et
+pub act_rows : (img : List ℕ) (n : ℕ) → each (row_rule img Act) n 0 ≡ each (λ s. each (act_rule img s) (terminals img) 0) n 0
+unfolding row_rule
+act_rows img n = refl
 
-    pub parser_2 : {x : Bool} → x ≡ is_wrong b → x ≡ true → b ≡ parser_rules img
-    unfolding parser_rules
-    parser_2 i w = then_wrong _ dom_rows i w ∙ then_good _ ea ia ga
-
-    module _ {xb : Bool} (ib : xb ≡ is_wrong b) (gb : xb ≡ false) {d : Verdict} (ed : d ≡ each (prod_rule img) (productions img) 0) where
-      pub parser_3 : {x : Bool} → x ≡ is_wrong d → x ≡ true → d ≡ parser_rules img
-      unfolding parser_rules
-      parser_3 i w = then_wrong _ ed i w ∙ then_good _ dom_rows ib gb ∙ then_good _ ea ia ga
-
-      module _ {xd : Bool} (id : xd ≡ is_wrong d) (gd : xd ≡ false) {f : Verdict} (ef : f ≡ each (row_rule img Act) (states img) 0) where
-        act_rows : f ≡ each (λ r. each (act_rule img r) (terminals img) 0) (states img) 0
-        unfolding row_rule
-        act_rows = ef
-
-        pub parser_4 : {x : Bool} → x ≡ is_wrong f → x ≡ true → f ≡ parser_rules img
-        unfolding parser_rules
-        parser_4 i w = then_wrong _ act_rows i w ∙ then_good _ ed id gd ∙ then_good _ dom_rows ib gb ∙ then_good _ ea ia ga
-
-        pub parser_5 : {h : Verdict} {x : Bool} → x ≡ is_wrong f → x ≡ false → h ≡ goto_rules img → h ≡ parser_rules img
-        unfolding parser_rules
-        parser_5 i gf eh = eh ∙ then_good _ act_rows i gf ∙ then_good _ ed id gd ∙ then_good _ dom_rows ib gb ∙ then_good _ ea ia ga
-
-module _ (img : List ℕ) {a : Verdict} (ea : a ≡ each (range_rule img) (ranges img) 0) where
-  pub scanner_1 : {x : Bool} → x ≡ is_wrong a → x ≡ true → a ≡ scanner_rules img
-  unfolding scanner_rules
-  scanner_1 i w = then_wrong _ ea i w
-
-  module _ {xa : Bool} (ia : xa ≡ is_wrong a) (ga : xa ≡ false) {b : Verdict} (eb : b ≡ move_rules img) where
-    pub scanner_2 : {x : Bool} → x ≡ is_wrong b → x ≡ true → b ≡ scanner_rules img
-    unfolding scanner_rules
-    scanner_2 i w = then_wrong _ eb i w ∙ then_good _ ea ia ga
-
-    module _ {xb : Bool} (ib : xb ≡ is_wrong b) (gb : xb ≡ false) {d : Verdict} {q : ℕ} (ed : d ≡ each (row_rule img Scan) q 0) (eq : q ≡ scan_states img) where
-      scan_rows : d ≡ each (scan_rule img) (scan_states img) 0
-      unfolding row_rule
-      scan_rows = ed ∙ rw eq
-
-      pub scanner_3 : {x : Bool} → x ≡ is_wrong d → x ≡ true → d ≡ scanner_rules img
-      unfolding scanner_rules
-      scanner_3 i w = then_wrong _ scan_rows i w ∙ then_good _ eb ib gb ∙ then_good _ ea ia ga
-
-      pub scanner_4 : {h : Verdict} {x : Bool} → x ≡ is_wrong d → x ≡ false → h ≡ each (group_rule img) (groups img) 0 → h ≡ scanner_rules img
-      unfolding scanner_rules
-      scanner_4 i gd eh = eh ∙ (then_good _ scan_rows i gd ∙ then_good _ eb ib gb ∙ then_good _ ea ia ga)
-
-module _ (img : List ℕ) {a : Verdict} (ea : a ≡ head_rules img) where
-  pub shape_1 : {x : Bool} → x ≡ is_wrong a → x ≡ true → a ≡ shape img
-  unfolding shape
-  shape_1 i w = then_wrong _ ea i w
-
-  pub shape_laid : {x : Bool} → x ≡ is_wrong a → x ≡ false → Laid img
-  shape_laid i g = head_laid img (sym ea ∙ is_good _ (sym i ∙ g))
-
-  module _ {xa : Bool} (ia : xa ≡ is_wrong a) (ga : xa ≡ false) {b : Verdict} (eb : b ≡ parser_rules img) where
-    pub shape_2 : {x : Bool} → x ≡ is_wrong b → x ≡ true → b ≡ shape img
-    unfolding shape
-    shape_2 i w = then_wrong _ eb i w ∙ then_good _ ea ia ga
-
-    pub shape_3 : {d : Verdict} {x : Bool} → x ≡ is_wrong b → x ≡ false → d ≡ scanner_rules img → d ≡ shape img
-    unfolding shape
-    shape_3 i gb ed = ed ∙ then_good _ eb i gb ∙ then_good _ ea ia ga
-
--- A table whose number of rows was read from the image, walked from the start or from a row before which all is right.
-pub from_row : (test : ℕ → Verdict) (r : ℕ) {v : Verdict} {n m : ℕ} → v ≡ each test (n - r) r → n ≡ m → each test m 0 ≡ each test (m - r) r → v ≡ each test m 0
-from_row test r e f g = e ∙ rw f (sym g)
-
-pub same_count : (test : ℕ → Verdict) {v : Verdict} {n m : ℕ} → v ≡ each test n 0 → n ≡ m → v ≡ each test m 0
-same_count test e f = e ∙ rw f
+pub scan_rows : (img : List ℕ) (n : ℕ) → each (row_rule img Scan) n 0 ≡ each (scan_rule img) n 0
+unfolding row_rule
+scan_rows img n = refl

@@ -1,6 +1,5 @@
 pub mod Good
 pub mod GoodParser
 pub mod Laws
-pub mod RuleLaws
 pub mod Sound
 pub mod Sums

@@ -13,7 +13,7 @@ use lib.Seq.{length-take-le, get_or-take, get_or-drop}
 use borrow.Author.Tests.{eq-eqb, ne_eqb, le-leb, lt-ltb, eqb-true, eqb-false, leb-false, ltb-true}
 use Rattle.sets.specs.Sets.{has, member, lacks, is_empty, several, count, lowest}
 use Rattle.sets.proofs.Laws.{out_lacks, has_none, has-or, or_left, or_right, lowest_lt, lowest_in, at_most_one}
-use Rattle.numbers.specs.declared.Verdict.TheVariants.{Good}
+use Rattle.numbers.specs.Verdicts.{Good}
 use Rattle.order.specs.declared.Ruled.TheVariants.{Dom, Act, Scan}
 use Rattle.pack.specs.Image.{word, set_words, set_at, terminals, productions, states, scan_states, dom_start, act_start, scan_start, act_at, scan_at, rej_at, poss_at, layout, dom, act, action_of, acc, rej, poss}
 use Rattle.pack.specs.Laid.{Laid}

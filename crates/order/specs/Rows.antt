@@ -1,7 +1,7 @@
 -- Manual, section 1.6: the rule of a row by its table, for the tables that are walked row by row where a quick pass says no. `shape` does not
 -- use this file.
 use Rattle.std.specs.Prelude.{List, ℕ}
-use Rattle.numbers.specs.declared.Verdict.{Verdict}
+use Rattle.numbers.specs.Verdicts.{Verdict}
 use Rattle.order.specs.declared.Ruled.{Ruled}
 use Rattle.order.specs.declared.Ruled.TheVariants.{Dom, Act, Scan}
 use Rattle.pack.specs.Image.{terminals, states, scan_states}

@@ -3,8 +3,7 @@
 use Rattle.std.specs.Prelude.{Bool, true, false, List, ℕ, zero, suc, ◌+◌, min, eqb, leb, length}
 use Rattle.pack.specs.Image.{word, size_words, most_symbols, terminals, nonterminals, productions, states, scan_states, classes, ranges, groups, layout_at, dom_at, prod_at, len_at, symbol_at, act_at, goto_at, range_at, hi_at, range_class_at, move_at, scan_at, rej_at, poss_at, group_at, chosen_at, needed, act, action_of}
 use Rattle.rules.specs.Rules.{size_right, layout_right, dom_right, lhs_right, len_right, symbol_right, act_right, above_previous, ends_right, class_right, acc_right, rej_right, poss_right, group_right, chosen_right}
-use Rattle.numbers.specs.declared.Verdict.{Verdict}
-use Rattle.numbers.specs.declared.Verdict.TheVariants.{Good, Wrong}
+use Rattle.numbers.specs.Verdicts.{Verdict, Good, Wrong}
 
 -- One rule: it holds, or this is the place of the wrong word.
 unfoldable pub rule : Bool → ℕ → Verdict

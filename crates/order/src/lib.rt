@@ -1,20 +1,19 @@
-// What the tests of the shape share: one rule's verdict, and the tables that have a quick pass over their rows. The definition of the shape, which is
+// What the tests of the shape share: one rule's answer, and the tables that have a quick pass over their rows. The definition of the shape, which is
 // the order of its rules, is in specs/, and what it gives in proofs/.
 #![tactic(auto)]
 
 ghost use Rattle.std.specs.Prelude.{◌≡◌};
+ghost use Rattle.numbers.specs.Verdicts.{verdict_of};
 ghost use Rattle.order.specs.Shape.{rule};
 
-use numbers::Verdict;
+use numbers::WrongWord;
 
 // One rule: it holds, or this is the place of the wrong word.
-pub fn rule(holds: bool, place: usize) -> Verdict
-    ensures { result ≡ rule holds place }
+#[tactic(auto, unfolding(crate::specs::Shape::rule))]
+pub fn rule(holds: bool, place: usize) -> Result<(), WrongWord>
+    ensures { verdict_of result ≡ rule holds place }
 {
-    if holds {
-        return Verdict::Good;
-    }
-    Verdict::Wrong(place)
+    if holds { Ok(()) } else { Err(WrongWord(place)) }
 }
 
 // The tables that are walked row by row where a quick pass says no.
