@@ -1,143 +1,114 @@
 // What a cell of the action table asks for.
 #![tactic(auto)]
 
-ghost use Rattle.std.specs.Prelude.{◌≡◌, true, ◌+◌, ◌-◌, ◌<◌, ◌≤◌, get_or};
+ghost use Rattle.std.specs.Prelude.{◌≡◌, ◌+◌, ◌-◌, ◌*◌, ◌<◌, ◌≤◌, length, get_or};
 ghost use Rattle.numbers.specs.declared.Verdict.TheVariants.{Good};
 ghost use Rattle.pack.specs.Image.{terminals, productions, states, act, action_of};
 ghost use Rattle.pack.specs.Laid.{Laid};
 ghost use Rattle.shape.specs.Shape.{shape};
-ghost use Rattle.records.specs.Inner.{Stacked, Roomy, Kept, standing, bounded, told};
+ghost use Rattle.records.specs.Inner.{Stacked, Kept, standing, bounded, told};
 ghost use Rattle.records.specs.Parse.{shift_to, reduce_by, perform};
 
-use look::Spot;
 use pack::{Action, image};
-use records::{Position, Turned, ending, full, going, narrow, put, wide};
+use records::{ParseError, Parser, Token, Turned, narrow};
 
 // Shift: write a leaf, push.
 fn shift(
     img: &[u16],
-    stack: &mut [u16; 512],
+    parser: &mut Parser,
     tree: &mut [u16],
-    room: usize,
     s: usize,
-    length: usize,
-    terminal: usize,
-    from: Position,
-) -> Turned
+    token: Token,
+) -> Result<Turned, ParseError>
     requires laid { Laid img.now }
-    requires stacked { Stacked img.now stack.old from.height }
-    requires roomy { Roomy room tree.old from.records }
-    requires s_bound { (s < states img.now) × (terminal < terminals img.now) }
-    requires length_bound { from.at.place + length ≤ 65535 }
-    ensures result_after { told stack.new tree.new result ≡ bounded (room - from.records) (shift_to s length terminal (standing stack.old tree.old from)) }
-    ensures kept { Kept img.now room tree.old from length stack.new tree.new result }
+    requires stacked { Stacked (states img.now) parser.old.stack }
+    requires tree_room { parser.old.room * 4 ≤ length tree.old }
+    requires s_bound { (s < states img.now) × (token.terminal < terminals img.now) }
+    requires length_bound { parser.old.at.place + token.length ≤ 65535 }
+    ensures result_after { told result (standing parser.new tree.new) ≡ bounded (parser.old.room - parser.old.records) (shift_to s token.length token.terminal (standing parser.old tree.old)) }
+    ensures stacked { Stacked (states img.now) parser.new.stack }
+    ensures kept { Kept parser.old tree.old token.length parser.new tree.new result }
 {
-    let h = from.height;
-    let n = from.records;
-    let code = full(room, n, h);
-    if code != numbers::DONE {
-        return ending(code, 0, 0, from);
-    }
-    let top = stack[numbers::MOST_STATES - h];
-    put(
-        tree,
-        n * records::RECORD_WORDS,
-        narrow(terminal),
-        narrow(from.at.place),
-        narrow(length),
-        top,
-    );
-    stack[numbers::MOST_STATES - 1 - h] = narrow(s);
-    going(
-        h + 1,
-        n + 1,
-        Spot {
-            place: from.at.place + length,
-            moves: from.at.moves,
-        },
-    )
+    let leaf = [
+        narrow(token.terminal),
+        narrow(parser.at.place),
+        narrow(token.length),
+        parser.stack.top(),
+    ];
+    parser.go_on(tree, leaf, 0, narrow(s), token.length)
 }
 
 // Reduce by p: drop len states, find goto of the uncovered state on lhs, write a node, push.
 fn reduce(
     img: &[u16],
-    stack: &mut [u16; 512],
+    parser: &mut Parser,
     tree: &mut [u16],
-    room: usize,
     p: usize,
-    from: Position,
-) -> Turned
+) -> Result<Turned, ParseError>
     requires laid { Laid img.now }
     requires good_shape { shape img.now ≡ Good }
-    requires stacked { Stacked img.now stack.old from.height }
-    requires roomy { Roomy room tree.old from.records }
+    requires stacked { Stacked (states img.now) parser.old.stack }
+    requires tree_room { parser.old.room * 4 ≤ length tree.old }
     requires p_bound { p < productions img.now }
-    ensures result_after { told stack.new tree.new result ≡ bounded (room - from.records) (reduce_by img.now p (standing stack.old tree.old from)) }
-    ensures kept { Kept img.now room tree.old from 0 stack.new tree.new result }
+    ensures result_after { told result (standing parser.new tree.new) ≡ bounded (parser.old.room - parser.old.records) (reduce_by img.now p (standing parser.old tree.old)) }
+    ensures stacked { Stacked (states img.now) parser.new.stack }
+    ensures kept { Kept parser.old tree.old 0 parser.new tree.new result }
 {
     let len = image::len(img, p);
-    let n = from.records;
-    if from.height <= len {
-        return ending(numbers::STUCK, 0, 0, from);
+    if parser.stack.height() <= len {
+        return Err(ParseError::Stuck);
     }
-    let h = from.height - len;
-    let uncovered = stack[numbers::MOST_STATES - h];
+    let uncovered = parser.stack.below(len);
     let lhs = image::lhs(img, p);
-    let to = image::goto(img, wide(uncovered), lhs);
+    let to = image::goto(img, usize::from(uncovered), lhs);
     if to == 0 {
-        return ending(numbers::STUCK, 0, 0, from);
+        return Err(ParseError::Stuck);
     }
-    let code = full(room, n, h);
-    if code != numbers::DONE {
-        return ending(code, 0, 0, from);
-    }
-    put(
-        tree,
-        n * records::RECORD_WORDS,
-        narrow(pack::image::FIRST_NONTERMINAL + lhs),
+    let node = [
+        narrow(image::FIRST_NONTERMINAL + lhs),
         narrow(p),
         narrow(len),
         uncovered,
-    );
-    stack[numbers::MOST_STATES - 1 - h] = narrow(to - 1);
-    going(h + 1, n + 1, from.at)
+    ];
+    parser.go_on(tree, node, len, narrow(to - 1), 0)
 }
 
 // Accept, where the stack holds exactly two states.
-fn accept(from: Position) -> Turned
-    ensures { (from.height ≡ 2 → result ≡ record { ends = true; code = 0; length = 0; terminal = 0; to = from })
-        × ((from.height ≡ 2 → ⊥) → result ≡ record { ends = true; code = 10; length = 0; terminal = 0; to = from }) }
+fn accept(parser: &Parser) -> Result<Turned, ParseError>
+    ensures { (length parser.now.stack ≡ 2 → result ≡ Ok Turned.Accepted) × ((length parser.now.stack ≡ 2 → ⊥) → result ≡ Err ParseError.Stuck) }
 {
-    if from.height == 2 {
-        return ending(numbers::DONE, 0, 0, from);
+    if parser.stack.height() == 2 {
+        Ok(Turned::Accepted)
+    } else {
+        Err(ParseError::Stuck)
     }
-    ending(numbers::STUCK, 0, 0, from)
 }
 
-// What the cell of the state on top says for the terminal.
+// What the cell of the state on top says for the token.
 pub fn perform(
     img: &[u16],
-    stack: &mut [u16; 512],
+    parser: &mut Parser,
     tree: &mut [u16],
-    room: usize,
-    length: usize,
-    terminal: usize,
-    from: Position,
-) -> Turned
+    token: Token,
+) -> Result<Turned, ParseError>
     requires laid { Laid img.now }
     requires good_shape { shape img.now ≡ Good }
-    requires stacked { Stacked img.now stack.old from.height }
-    requires roomy { Roomy room tree.old from.records }
-    requires terminal_bound { terminal < terminals img.now }
-    requires length_bound { from.at.place + length ≤ 65535 }
-    ensures result_after { told stack.new tree.new result ≡ bounded (room - from.records) (perform img.now (action_of (act img.now (get_or stack.old (512 - from.height) 0) terminal)) length terminal (standing stack.old tree.old from)) }
-    ensures kept { Kept img.now room tree.old from length stack.new tree.new result }
+    requires stacked { Stacked (states img.now) parser.old.stack }
+    requires tree_room { parser.old.room * 4 ≤ length tree.old }
+    requires terminal_bound { token.terminal < terminals img.now }
+    requires length_bound { parser.old.at.place + token.length ≤ 65535 }
+    ensures result_after { told result (standing parser.new tree.new) ≡ bounded (parser.old.room - parser.old.records) (perform img.now (action_of (act img.now (get_or parser.old.stack 0 0) token.terminal)) token.length token.terminal (standing parser.old tree.old)) }
+    ensures stacked { Stacked (states img.now) parser.new.stack }
+    ensures kept { Kept parser.old tree.old token.length parser.new tree.new result }
 {
-    let top = wide(stack[numbers::MOST_STATES - from.height]);
-    match pack::action_of(image::act(img, top, terminal)) {
-        Action::Error => ending(numbers::UNEXPECTED, length, terminal, from),
-        Action::Accept => accept(from),
-        Action::Shift(s) => shift(img, stack, tree, room, s, length, terminal, from),
-        Action::Reduce(p) => reduce(img, stack, tree, room, p, from),
+    let top = usize::from(parser.stack.top());
+    match pack::action_of(image::act(img, top, token.terminal)) {
+        Action::Error => Err(ParseError::Unexpected {
+            length: token.length,
+            terminal: token.terminal,
+        }),
+        Action::Accept => accept(parser),
+        Action::Shift(s) => shift(img, parser, tree, s, token),
+        Action::Reduce(p) => reduce(img, parser, tree, p),
     }
 }

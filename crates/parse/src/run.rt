@@ -1,81 +1,91 @@
 // Turn after turn.
-ghost use Rattle.std.specs.Prelude.{◌≡◌, ◌-◌, ◌/◌, ◌<◌, ◌≤◌, min, length};
+ghost use Rattle.std.specs.Prelude.{◌≡◌, ◌-◌, ◌*◌, ◌/◌, ◌<◌, ◌≤◌, min, length};
 ghost use Rattle.numbers.specs.declared.Verdict.TheVariants.{Good};
+ghost use Rattle.pack.specs.Image.{states};
 ghost use Rattle.shape.specs.Shape.{shape};
-ghost use Rattle.records.specs.Inner.{Stacked, Roomy, KeptTurn, standing, bounded, told};
+ghost use Rattle.records.specs.Inner.{Stacked, KeptTurn, IsLooked, standing, bounded, told, looked_at, parsed_of};
 ghost use Rattle.classes.specs.Ready.{Ready};
 ghost use Rattle.look.specs.Inner.{Known, Within};
 ghost use Rattle.look.specs.Look.{look};
 ghost use Rattle.records.specs.Parse.{step, run, start, room_of, tree_after};
 
-use look::Spot;
-use records::{Parsed, Position, Turned};
+use look::{Looked, Spot};
+use records::{ParseError, Parsed, Parser, Stack, Token, Turned};
 
 // Tree room: the whole records that fit.
 fn room_of(words: usize) -> usize
     ensures { result ≡ min (words / 4) 65535 }
 {
-    let fit = words / records::RECORD_WORDS;
-    if fit < numbers::MOST_RECORDS {
-        return fit;
+    (words / records::RECORD_WORDS).min(numbers::MOST_RECORDS)
+}
+
+// What was found: a token, or why there is none.
+fn found(l: Looked) -> Result<Token, ParseError>
+    requires { IsLooked l }
+    ensures { looked_at result l.at ≡ l }
+{
+    match l.code {
+        numbers::DONE => Ok(Token {
+            terminal: l.terminal,
+            length: l.length,
+        }),
+        numbers::NO_TERMINAL => Err(ParseError::NoTerminal),
+        numbers::UNEXPECTED => Err(ParseError::Unexpected {
+            length: l.length,
+            terminal: l.terminal,
+        }),
+        numbers::NO_GROUP => Err(ParseError::NoGroup { length: l.length }),
+        _ => Err(ParseError::AllowanceUsedUp),
     }
-    numbers::MOST_RECORDS
 }
 
 // One turn: look, and do what the cell says.
 fn turn(
     img: &[u16],
     text: &[u8],
-    stack: &mut [u16; 512],
+    parser: &mut Parser,
     known: &mut [u64; 128],
     tree: &mut [u16],
     allowance: usize,
-    room: usize,
-    from: Position,
-) -> Turned
+) -> Result<Turned, ParseError>
     requires ready { Ready img.now }
     requires text_len_bound { length text.now ≤ 65535 }
-    requires stacked { Stacked img.now stack.old from.height }
+    requires stacked { Stacked (states img.now) parser.old.stack }
     requires known { Known img.now known.old }
-    requires roomy { Roomy room tree.old from.records }
-    requires within { Within text.now allowance from.at }
-    ensures result_after { told stack.new tree.new result ≡ bounded (room - from.records) (step img.now (look img.now text.now allowance) (standing stack.old tree.old from)) }
-    ensures kept_turn { KeptTurn img.now text.now allowance room tree.old from.records stack.new known.new tree.new result }
+    requires tree_room { parser.old.room * 4 ≤ length tree.old }
+    requires within { Within text.now allowance parser.old.at }
+    ensures result_after { told result (standing parser.new tree.new) ≡ bounded (parser.old.room - parser.old.records) (step img.now (look img.now text.now allowance) (standing parser.old tree.old)) }
+    ensures kept_turn { KeptTurn img.now text.now allowance parser.old tree.old parser.new known.new tree.new result }
 {
-    let h = from.height;
-    let top = records::wide(stack[numbers::MOST_STATES - h]);
-    let here = from.at;
-    let l = look::look(img, text, known, allowance, top, here);
-    let at = l.at;
-    let to = Position {
-        height: h,
-        records: from.records,
-        at,
-    };
-    if l.code != numbers::DONE {
-        return Turned {
-            ends: true,
-            code: l.code,
-            length: l.length,
-            terminal: l.terminal,
-            to,
-        };
-    }
-    act::perform(img, stack, tree, room, l.length, l.terminal, to)
+    let top = usize::from(parser.stack.top());
+    let l = look::look(img, text, known, allowance, top, parser.at);
+    parser.at = l.at;
+    let token = found(l)?;
+    act::perform(img, parser, tree, token)
 }
 
 // The numbers given back.
-fn finish(t: Turned) -> Parsed
-    requires { t.to.at.moves < 4294967296 }
-    ensures { result ≡ record { code = t.code; place = t.to.at.place; length = t.length; terminal = t.terminal; records = t.to.records; moves = t.to.at.moves } }
+fn finish(ended: Result<(), ParseError>, parser: &Parser) -> Parsed
+    requires { parser.now.at.moves < 4294967296 }
+    ensures { result ≡ parsed_of ended parser.now.records parser.now.at }
 {
+    let (code, length, terminal) = match ended {
+        Ok(()) => (numbers::DONE, 0, 0),
+        Err(ParseError::NoTerminal) => (numbers::NO_TERMINAL, 0, 0),
+        Err(ParseError::Unexpected { length, terminal }) => (numbers::UNEXPECTED, length, terminal),
+        Err(ParseError::NoGroup { length }) => (numbers::NO_GROUP, length, 0),
+        Err(ParseError::Stuck) => (numbers::STUCK, 0, 0),
+        Err(ParseError::TreeFull) => (numbers::TREE_FULL, 0, 0),
+        Err(ParseError::StackFull) => (numbers::STACK_FULL, 0, 0),
+        Err(ParseError::AllowanceUsedUp) => (numbers::ALLOWANCE_USED_UP, 0, 0),
+    };
     Parsed {
-        code: t.code,
-        place: t.to.at.place,
-        length: t.length,
-        terminal: t.terminal,
-        records: t.to.records,
-        moves: t.to.at.moves as u32,
+        code,
+        place: parser.at.place,
+        length,
+        terminal,
+        records: parser.records,
+        moves: parser.at.moves as u32,
     }
 }
 
@@ -85,28 +95,18 @@ pub fn run(img: &[u16], text: &[u8], tree: &mut [u16], allowance: u32) -> Parsed
     ensures value { result ≡ (run img.now (look img.now text.now allowance) (room_of tree.old) start).parsed }
     ensures tree_after { tree.new ≡ tree_after tree.old (run img.now (look img.now text.now allowance) (room_of tree.old) start) }
 {
-    let room = room_of(tree.len());
-    let mut stack = [0u16; 512];
-    let mut known = [0u64; 128];
-    let mut at = Position {
-        height: 1,
+    let mut parser = Parser {
+        stack: Stack::new(),
+        room: room_of(tree.len()),
         records: 0,
         at: Spot { place: 0, moves: 0 },
     };
+    let mut known = [0u64; 128];
     loop {
-        let t = turn(
-            img,
-            text,
-            &mut stack,
-            &mut known,
-            tree,
-            allowance as usize,
-            room,
-            at,
-        );
-        if t.ends {
-            return finish(t);
+        match turn(img, text, &mut parser, &mut known, tree, allowance as usize) {
+            Ok(Turned::Went) => {}
+            Ok(Turned::Accepted) => return finish(Ok(()), &parser),
+            Err(e) => return finish(Err(e), &parser),
         }
-        at = t.to;
     }
 }

@@ -1,30 +1,74 @@
 -- What the inner functions of the parse ask for and promise each other. No public entry point's contract cites it.
-use Rattle.std.specs.Prelude.{◌≡◌, true, false, List, ◌∷◌, ◌++◌, ℕ, zero, suc, ◌+◌, ◌-◌, ◌*◌, ◌<◌, ◌≤◌, leb, length, get_or, take, drop}
-use Rattle.numbers.specs.Codes.{done, tree_full, stack_full, most_states}
+use Rattle.std.specs.Prelude.{◌≡◌, true, false, List, ◌++◌, ℕ, zero, suc, ◌+◌, ◌-◌, ◌*◌, ◌/◌, ◌<◌, ◌≤◌, leb, length, get_or, take, drop, Result, Ok, Err}
+use Rattle.numbers.specs.Codes.{done, no_terminal, unexpected, no_group, stuck, tree_full, stack_full, allowance_used_up, most_states}
 use Rattle.pack.specs.Image.{states}
+use Rattle.look.specs.declared.Spot.{Spot}
 use Rattle.look.specs.Inner.{Known, Within}
-use Rattle.look.specs.Look.{look}
-use Rattle.records.specs.declared.Position.{Position}
+use Rattle.look.specs.declared.Looked.{Looked}
+use Rattle.look.specs.Look.{refused, found, look}
+use Rattle.records.specs.declared.ParseError.{ParseError}
+use Rattle.records.specs.declared.ParseError.TheVariants.{NoTerminal, Unexpected, NoGroup, Stuck, TreeFull, StackFull, AllowanceUsedUp}
+use Rattle.records.specs.declared.Parsed.{Parsed}
+use Rattle.records.specs.declared.Token.{Token}
 use Rattle.records.specs.declared.Turned.{Turned}
-use Rattle.records.specs.Parse.{Standing, Ending, Step, ends, goes, ending, run, start, record_words}
+use Rattle.records.specs.declared.Turned.TheVariants.{Accepted, Went}
+use Rattle.records.specs.declared.parser.Parser.{Parser}
+use Rattle.records.specs.Parse.{Standing, Ending, Step, ends, goes, ending, run, start, room_of, record_words}
 
--- A row of 512 parse states, used from its end downwards: with so many on it the stack, top first, is its last part. The records are
--- the front of the tree.
-abbrev pub standing : List ℕ → List ℕ → Position → Standing
-standing stack tree p = record { stack = drop (512 - p.height) stack; words = take (p.records * record_words) tree; at = p.at }
+-- The records are the front of the tree.
+abbrev pub standing : Parser → List ℕ → Standing
+standing p tree = record { stack = p.stack; words = take (p.records * record_words) tree; at = p.at }
 
--- The stack holds states, from 1 to 512 of them.
-pub record Stacked (img stack : List ℕ) (height : ℕ) : Type 0 where
-  pub some : 1 ≤ height
-  pub most : height ≤ 512
-  pub size : length stack ≡ 512
-  pub each : (i : ℕ) → get_or stack i 0 < states img
+-- The stack holds states, of so many.
+abbrev pub Stacked : ℕ → List ℕ → Type 0
+Stacked n stack = (i : ℕ) → get_or stack i 0 < n
 
--- The room is there.
-pub record Roomy (room : ℕ) (tree : List ℕ) (records : ℕ) : Type 0 where
-  pub most : room ≤ 65535
-  pub there : room * record_words ≤ length tree
-  pub within : records ≤ room
+-- The manual's numbers of the end of a run.
+abbrev pub error_code : ParseError → ℕ
+error_code NoTerminal = no_terminal
+error_code (Unexpected size terminal) = unexpected
+error_code (NoGroup size) = no_group
+error_code Stuck = stuck
+error_code TreeFull = tree_full
+error_code StackFull = stack_full
+error_code AllowanceUsedUp = allowance_used_up
+
+abbrev pub error_length : ParseError → ℕ
+error_length NoTerminal = 0
+error_length (Unexpected size terminal) = size
+error_length (NoGroup size) = size
+error_length Stuck = 0
+error_length TreeFull = 0
+error_length StackFull = 0
+error_length AllowanceUsedUp = 0
+
+abbrev pub error_terminal : ParseError → ℕ
+error_terminal NoTerminal = 0
+error_terminal (Unexpected size terminal) = terminal
+error_terminal (NoGroup size) = 0
+error_terminal Stuck = 0
+error_terminal TreeFull = 0
+error_terminal StackFull = 0
+error_terminal AllowanceUsedUp = 0
+
+abbrev pub parsed_of : Result (Unit {0}) ParseError → ℕ → Spot → Parsed
+parsed_of (Ok u) records at = record { code = done; place = at.place; length = 0; terminal = 0; records = records; moves = at.moves }
+parsed_of (Err e) records at = record { code = error_code e; place = at.place; length = error_length e; terminal = error_terminal e; records = records; moves = at.moves }
+
+abbrev pub ended : Result (Unit {0}) ParseError → Standing → Ending
+ended e here = record { parsed = parsed_of e (length here.words / record_words) here.at; words = here.words }
+
+-- What a look gives: a token, or why there is none.
+abbrev pub looked_at : Result Token ParseError → Spot → Looked
+looked_at (Ok t) at = found t.length t.terminal at
+looked_at (Err e) at = refused (error_code e) (error_length e) (error_terminal e) at
+
+pub data IsLooked : Looked → Type 0 where
+  is_token : (size terminal : ℕ) (at : Spot) → IsLooked (found size terminal at)
+  is_nothing : (at : Spot) → IsLooked (refused no_terminal 0 0 at)
+  is_another : (size terminal : ℕ) (at : Spot) → IsLooked (refused unexpected size terminal at)
+  is_several : (size : ℕ) (at : Spot) → IsLooked (refused no_group size 0 at)
+  is_spent : (at : Spot) → IsLooked (refused allowance_used_up 0 0 at)
 
 -- What a step comes to, within the room and the stack: "code 10 comes first, then 11, then 12".
 pub data Turn : Type 0 where
@@ -37,51 +81,49 @@ bounded zero (goes here next) = stops (ending tree_full 0 0 here)
 bounded (suc left) (goes here next) = elim (leb (length next.stack) most_states) [ false ↦ stops (ending stack_full 0 0 here) | true ↦ turns next ]
 
 -- The same of a record to be written and a state to be pushed onto a stack of this height: done where there is room for both.
-unfoldable pub full : ℕ → ℕ → ℕ → ℕ
+unfoldable pub full : ℕ → ℕ → ℕ → Result (Unit {0}) ParseError
 full room records height =
-    elim (leb room records) [ true ↦ tree_full | false ↦ elim (leb most_states height) [ true ↦ stack_full | false ↦ done ] ]
+    elim (leb room records) [ true ↦ Err TreeFull | false ↦ elim (leb most_states height) [ true ↦ Err StackFull | false ↦ Ok tt ] ]
 
--- What the code says of it, with the stack and the tree that it leaves.
-unfoldable pub told : List ℕ → List ℕ → Turned → Turn
-told stack tree r =
-    elim r.ends [
-      | true ↦ stops (ending r.code r.length r.terminal (standing stack tree r.to))
-      | false ↦ turns (standing stack tree r.to)
-    ]
+-- What the code says of it, where the parse then stands.
+unfoldable pub told : Result Turned ParseError → Standing → Turn
+told (Ok Accepted) here = stops (ended (Ok tt) here)
+told (Ok Went) here = turns here
+told (Err e) here = stops (ended (Err e) here)
 
--- What a turn keeps: the stack is one, the room suffices, the tree's rest is untouched, the spot is at most so many bytes further,
--- and a turn that goes on writes a record.
-pub record Kept (img : List ℕ) (room : ℕ) (tree : List ℕ) (from : Position) (size : ℕ) (stack' tree' : List ℕ) (r : Turned) : Type 0 where
-  pub stacked : Stacked img stack' r.to.height
-  pub roomy : Roomy room tree' r.to.records
-  pub place : r.to.at.place ≤ from.at.place + size
-  pub moves : r.to.at.moves ≡ from.at.moves
-  pub rest : drop (r.to.records * record_words) tree' ≡ drop (r.to.records * record_words) tree
+-- What an action keeps: the tree's rest is untouched, the spot is at most so many bytes further, one that goes on writes a record, and
+-- one that does not changes nothing.
+pub record Kept (from : Parser) (tree : List ℕ) (size : ℕ) (to : Parser) (tree' : List ℕ) (r : Result Turned ParseError) : Type 0 where
+  pub room : to.room ≡ from.room
+  pub place : to.at.place ≤ from.at.place + size
+  pub moves : to.at.moves ≡ from.at.moves
+  pub rest : drop (to.records * record_words) tree' ≡ drop (to.records * record_words) tree
   pub whole : length tree' ≡ length tree
-  pub grown : from.records ≤ r.to.records
-  pub more : r.ends ≡ false → r.to.records ≡ from.records + 1
+  pub grown : from.records ≤ to.records
+  pub more : r ≡ Ok Went → to.records ≡ from.records + 1
+  pub unchanged : (r ≡ Ok Went → ⊥) → (to ≡ from) × (tree' ≡ tree)
 
 -- The words with four in a row in the place of those from n on.
-unfoldable pub put4 : List ℕ → ℕ → ℕ → ℕ → ℕ → ℕ → List ℕ
-put4 t n a b c d = take n t ++ (a ∷ b ∷ c ∷ d ∷ drop (n + 4) t)
+unfoldable pub put4 : List ℕ → ℕ → List ℕ → List ℕ
+put4 t n words = take n t ++ (words ++ drop (n + 4) t)
 
--- The same, for a whole turn: within the text and the allowance, the sets still known.
-pub record KeptTurn (img text : List ℕ) (allowance room : ℕ) (tree : List ℕ) (records : ℕ) (stack' known' tree' : List ℕ) (r : Turned) : Type 0 where
-  pub stacked : Stacked img stack' r.to.height
+-- The same, for a whole turn: the stack holds states, within the text and the allowance, the sets still known.
+pub record KeptTurn (img text : List ℕ) (allowance : ℕ) (from : Parser) (tree : List ℕ) (to : Parser) (known' tree' : List ℕ) (r : Result Turned ParseError) : Type 0 where
+  pub stacked : Stacked (states img) to.stack
   pub known : Known img known'
-  pub roomy : Roomy room tree' r.to.records
-  pub within : Within text allowance r.to.at
-  pub rest : drop (r.to.records * record_words) tree' ≡ drop (r.to.records * record_words) tree
+  pub room : to.room ≡ from.room
+  pub within : Within text allowance to.at
+  pub rest : drop (to.records * record_words) tree' ≡ drop (to.records * record_words) tree
   pub whole : length tree' ≡ length tree
-  pub grown : records ≤ r.to.records
-  pub more : r.ends ≡ false → r.to.records ≡ records + 1
+  pub grown : from.records ≤ to.records
+  pub more : r ≡ Ok Went → to.records ≡ from.records + 1
 
 -- What holds between turns: all of that, and the run from here on is the whole run.
-pub record Turning (img text tree₀ : List ℕ) (allowance room : ℕ) (stack known tree : List ℕ) (p : Position) : Type 0 where
-  pub stacked : Stacked img stack p.height
+pub record Turning (img text tree₀ : List ℕ) (allowance : ℕ) (known tree : List ℕ) (p : Parser) : Type 0 where
+  pub stacked : Stacked (states img) p.stack
   pub sets : Known img known
-  pub roomy : Roomy room tree p.records
+  pub room : p.room ≡ room_of tree₀
   pub within : Within text allowance p.at
   pub rest : drop (p.records * record_words) tree ≡ drop (p.records * record_words) tree₀
   pub whole : length tree ≡ length tree₀
-  pub same : run img (look img text allowance) room start ≡ run img (look img text allowance) (room - p.records) (standing stack tree p)
+  pub same : run img (look img text allowance) (room_of tree₀) start ≡ run img (look img text allowance) (p.room - p.records) (standing p tree)

@@ -2,10 +2,14 @@
 // the parse is in specs/, and what the actions come to in proofs/.
 #![tactic(auto)]
 
-ghost use Rattle.std.specs.Prelude.{◌≡◌, true, false, ◌+◌, ◌<◌, ◌≤◌, length};
+ghost use Rattle.std.specs.Prelude.{◌≡◌, ◌+◌, ◌<◌, ◌≤◌, length, OnOk};
 ghost use Rattle.records.specs.Inner.{full, put4};
 
-use look::Spot;
+mod parser; // parser.rt: where the parse stands, and the step that goes on
+mod stack; // stack.rt: the parse states
+
+pub use parser::Parser;
+pub use stack::Stack;
 
 // What a parse gives beside the records in the lent tree.
 #[derive(Clone, Copy)]
@@ -18,64 +22,42 @@ pub struct Parsed {
     pub moves: u32,
 }
 
+// Why a parse ends without a tree: the codes 7 to 13 of the manual, with the numbers that go with them.
+#[derive(Clone, Copy, Debug, PartialEq, Eq)]
+pub enum ParseError {
+    NoTerminal,
+    Unexpected { length: usize, terminal: usize },
+    NoGroup { length: usize },
+    Stuck,
+    TreeFull,
+    StackFull,
+    AllowanceUsedUp,
+}
+
+// A token: its terminal and the bytes that it takes.
+#[derive(Clone, Copy, Debug, PartialEq, Eq)]
+pub struct Token {
+    pub terminal: usize,
+    pub length: usize,
+}
+
+// What a turn comes to that is not refused: the text is accepted, or a record is written and the parse goes on.
+#[derive(Clone, Copy, Debug, PartialEq, Eq)]
+pub enum Turned {
+    Accepted,
+    Went,
+}
+
 // The words of a record.
 pub const RECORD_WORDS: usize = 4;
 
-// Where the parse stands: the height of the stack, the records written, and the spot in the text.
-#[derive(Clone, Copy)]
-pub struct Position {
-    pub height: usize,
-    pub records: usize,
-    pub at: Spot,
-}
-
-// What a turn comes to: the end, with code, length and terminal, or where the parse stands after it.
-#[derive(Clone, Copy)]
-pub struct Turned {
-    pub ends: bool,
-    pub code: u8,
-    pub length: usize,
-    pub terminal: usize,
-    pub to: Position,
-}
-
-pub fn ending(code: u8, length: usize, terminal: usize, to: Position) -> Turned
-    ensures { result ≡ record { ends = true; code = code; length = length; terminal = terminal; to = to } }
-{
-    Turned {
-        ends: true,
-        code,
-        length,
-        terminal,
-        to,
-    }
-}
-
-pub fn going(height: usize, records: usize, at: Spot) -> Turned
-    ensures { result ≡ record { ends = false; code = 0; length = 0; terminal = 0; to = record { height = height; records = records; at = at } } }
-{
-    Turned {
-        ends: false,
-        code: 0,
-        length: 0,
-        terminal: 0,
-        to: Position {
-            height,
-            records,
-            at,
-        },
-    }
-}
-
 // A record into the tree.
-pub fn put(tree: &mut [u16], n: usize, a: u16, b: u16, c: u16, d: u16)
+#[tactic(auto, unfolding(crate::specs::Inner::put4))]
+pub fn put(tree: &mut [u16], n: usize, words: [u16; 4])
     requires { n + 4 ≤ length tree.old }
-    ensures { tree.new ≡ put4 tree.old n a b c d }
+    ensures { tree.new ≡ put4 tree.old n words }
 {
-    tree[n] = a;
-    tree[n + 1] = b;
-    tree[n + 2] = c;
-    tree[n + 3] = d;
+    tree[n..n + RECORD_WORDS].copy_from_slice(&words);
 }
 
 pub fn narrow(x: usize) -> u16
@@ -85,21 +67,17 @@ pub fn narrow(x: usize) -> u16
     x as u16
 }
 
-pub fn wide(x: u16) -> usize
-    ensures { result ≡ x }
-{
-    x as usize
-}
-
-// Whether there is room for one record more, and for one state more on a stack of this height: done, or the code.
-pub fn full(room: usize, records: usize, height: usize) -> u8
-    ensures { result ≡ full room records height }
+// Whether there is room for one record more, and for one state more on a stack of this height.
+#[tactic(auto, unfolding(crate::specs::Inner::full))]
+pub fn full(room: usize, records: usize, height: usize) -> Result<(), ParseError>
+    ensures value { result ≡ full room records height }
+    ensures fits { OnOk result ((records < room) × (height < 512)) }
 {
     if room <= records {
-        return numbers::TREE_FULL;
+        return Err(ParseError::TreeFull);
     }
     if numbers::MOST_STATES <= height {
-        return numbers::STACK_FULL;
+        return Err(ParseError::StackFull);
     }
-    numbers::DONE
+    Ok(())
 }

@@ -1,21 +1,30 @@
-use Rattle.parse.proofs.RunLaws.{turning_starts, turns_on, turns_end, turns_tree}
+use Rattle.std.proofs.Common.{refl, Ok, Err}
+use Rattle.records.specs.Inner.{standing}
+use Rattle.parse.proofs.RunLaws.{turning_starts, turns_on, turns_end, turns_tree, told_accepted, told_refused}
 use Rattle.shape.proofs.Good.{good_laid}
 use Rattle.parse.proofs.run.run.Goals as goal
 
-pub loop-stack-init : goal.loop-stack-init
-loop-stack-init c =
-    turning_starts _ _ _ _ _ (good_laid _ c.requires.good_shape) c.room_of-room.ensures
+pub loop-parser-init : goal.loop-parser-init
+loop-parser-init c = turning_starts _ _ _ _ _ (good_laid _ c.requires.good_shape) c.room_of.ensures c.new.ensures refl refl
 
-pub turn-t-requires : goal.turn-t-requires
-turn-t-requires c =
-    let v = c.loop-stack.invariant in
-    record { ready = record { laid = good_laid _ c.requires.good_shape; good = c.requires.good_shape }; text_len_bound = c.requires.text_len_bound; stacked = v.stacked; known = v.sets; roomy = v.roomy; within = v.within }
+pub turn-requires-clause-ready : goal.turn-requires-clause-ready
+turn-requires-clause-ready c = record { laid = good_laid _ c.requires.good_shape; good = c.requires.good_shape }
 
-pub returns-then-t : goal.returns-then-t
-returns-then-t c =
-    let v = c.loop-stack.invariant in
-    record { value = turns_end _ _ _ _ _ _ _ _ _ v c.turn-t.ensures.result_after c.turn-t.ensures.kept_turn c.if-t.true c.room_of-room.ensures c.finish.ensures; tree_after = turns_tree _ _ _ _ _ _ _ _ _ v c.turn-t.ensures.result_after c.turn-t.ensures.kept_turn c.if-t.true c.room_of-room.ensures }
+pub loop-parser-preserved : goal.loop-parser-preserved
+loop-parser-preserved c = turns_on _ _ _ _ _ _ _ c.loop-parser.invariant _ _ c.turn.new.parser c.turn.ensures.result_after c.turn.ensures.kept_turn (cc)
 
-pub loop-stack-preserved : goal.loop-stack-preserved
-loop-stack-preserved c =
-    turns_on _ _ _ _ _ _ _ _ _ c.loop-stack.invariant c.turn-t.ensures.result_after c.turn-t.ensures.kept_turn c.if-t.false
+pub returns-in-Ok-Accepted-clause-value : goal.returns-in-Ok-Accepted-clause-value
+returns-in-Ok-Accepted-clause-value c =
+    turns_end _ _ _ _ _ _ _ c.loop-parser.invariant _ _ c.turn.new.parser c.turn.ensures.result_after c.turn.ensures.kept_turn (Ok tt) (told_accepted (standing c.turn.new.parser c.turn.new.tree) (cc)) c.finish.ensures
+
+pub returns-in-Ok-Accepted-clause-tree_after : goal.returns-in-Ok-Accepted-clause-tree_after
+returns-in-Ok-Accepted-clause-tree_after c =
+    turns_tree _ _ _ _ _ _ _ c.loop-parser.invariant _ _ c.turn.new.parser c.turn.ensures.result_after c.turn.ensures.kept_turn (Ok tt) (told_accepted (standing c.turn.new.parser c.turn.new.tree) (cc))
+
+pub returns-in-Err-clause-value : goal.returns-in-Err-clause-value
+returns-in-Err-clause-value c =
+    turns_end _ _ _ _ _ _ _ c.loop-parser.invariant _ _ c.turn.new.parser c.turn.ensures.result_after c.turn.ensures.kept_turn (Err _) (told_refused (standing c.turn.new.parser c.turn.new.tree) _ c.in-Err.is) c.finish-in-Err.ensures
+
+pub returns-in-Err-clause-tree_after : goal.returns-in-Err-clause-tree_after
+returns-in-Err-clause-tree_after c =
+    turns_tree _ _ _ _ _ _ _ c.loop-parser.invariant _ _ c.turn.new.parser c.turn.ensures.result_after c.turn.ensures.kept_turn (Err _) (told_refused (standing c.turn.new.parser c.turn.new.tree) _ c.in-Err.is)
