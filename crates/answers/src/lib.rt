@@ -3,11 +3,12 @@
 #![tactic(auto)]
 
 ghost use Rattle.std.specs.Prelude.{◌≡◌, [], ◌∷◌};
+ghost use Rattle.numbers.specs.Verdicts.{verdict_of};
 ghost use Rattle.answers.specs.Numbers.{told, written, of_shape, of_scan, of_answer, of_check, of_parse, of_part, part_of};
 
 use conditions::Checked;
 use leaf::Part;
-use numbers::{Answer, Verdict};
+use numbers::{Answer, WrongWord};
 use records::Parsed;
 use scan::Scanned;
 
@@ -73,9 +74,9 @@ fn put6(out: &mut [u64], a: u64, b: u64, c: u64, d: u64, e: u64, f: u64) -> usiz
 }
 
 // Of the shape: code and place.
-pub fn put_shape(out: &mut [u64], v: Verdict) -> usize
-    ensures value { result ≡ told out.old (of_shape v) }
-    ensures out_after { out.new ≡ written out.old (of_shape v) }
+pub fn put_shape(out: &mut [u64], v: Result<(), WrongWord>) -> usize
+    ensures value { result ≡ told out.old (of_shape (verdict_of v)) }
+    ensures out_after { out.new ≡ written out.old (of_shape (verdict_of v)) }
 {
     let code = numbers::verdict_code(v) as u64;
     let place = numbers::verdict_place(v) as u64;

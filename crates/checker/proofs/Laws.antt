@@ -4,11 +4,8 @@ use mathlib.Core.Bool.{true, false}
 use mathlib.Core.List.{List, [], ◌∷◌}
 use Prim.Native.Nat.{ℕ}
 use Rattle.numbers.specs.Codes.{wrong_shape}
-use Rattle.numbers.specs.declared.Verdict.{Verdict}
-use Rattle.numbers.specs.declared.Verdict.TheVariants.{Good, Wrong}
-use Rattle.numbers.specs.Verdicts.{is_wrong, verdict_place}
+use Rattle.numbers.specs.Verdicts.{Good, Wrong}
 use Rattle.shape.specs.Shape.{shape}
-use Rattle.shape.proofs.Laws.{is_good, is_wrong_lem}
 use Rattle.conditions.specs.declared.Checked.{Checked}
 use Rattle.conditions.specs.declared.Finding.{Finding}
 use Rattle.conditions.specs.declared.Finding.TheVariants.{Holds, Fails}
@@ -48,18 +45,10 @@ module _ (c : Condition) (img : List ℕ) {f : Finding} (e : f ≡ find c img) w
   last_here h = rw (← e) h
 
 -- The check, after shape.
-pub check_wrong : (img : List ℕ) {v : Verdict} {place : ℕ} → v ≡ shape img → is_wrong v ≡ true → place ≡ verdict_place v
-    → record { code = wrong_shape; number = place; first = 0; second = 0 } ≡ check img
-unfolding check check_all verdict_place
-check_wrong img {v} {place} e w f =
-    let q = is_wrong_lem v w in
-    let z : shape img ≡ Wrong q.0 = sym e ∙ q.1 in
-    let y : place ≡ q.0 = f ∙ placed v q.0 q.1 in
-    simp (check, check_all, z, y)
-  where
-    placed : (u : Verdict) (p : ℕ) → u ≡ Wrong p → verdict_place u ≡ p
-    placed u p h = rw h
-
-pub check_good : (img : List ℕ) {v : Verdict} {r : Checked} → v ≡ shape img → is_wrong v ≡ false → r ≡ first_failing img plain → r ≡ check img
+pub check_wrong : (img : List ℕ) (place : ℕ) → Wrong place ≡ shape img → record { code = wrong_shape; number = place; first = 0; second = 0 } ≡ check img
 unfolding check check_all
-check_good img {v} e w h = let z : shape img ≡ Good = sym e ∙ is_good v w in simp (check, check_all, z) h
+check_wrong img place e = simp (check, check_all, sym e)
+
+pub check_good : (img : List ℕ) {r : Checked} → Good ≡ shape img → r ≡ first_failing img plain → r ≡ check img
+unfolding check check_all
+check_good img e h = simp (check, check_all, sym e) h

@@ -4,12 +4,13 @@
 ghost use Rattle.std.specs.Prelude.{◌≡◌, [], ◌∷◌};
 ghost use Rattle.pack.specs.Image.{states};
 ghost use Rattle.pack.specs.Laid.{Laid};
-ghost use Rattle.numbers.specs.declared.Verdict.TheVariants.{Good};
+ghost use Rattle.numbers.specs.Verdicts.{Good};
 ghost use Rattle.shape.specs.Shape.{shape};
 ghost use Rattle.conditions.specs.Check.{c4, c5, c6, plain, passed, report, first_failing, check};
 ghost use Rattle.edges.specs.Tables.{Sources, Carried, Goers};
 
 use conditions::{Checked, Finding};
+use numbers::WrongWord;
 
 // The answer for a condition by its number.
 fn answer(number: usize, f: Finding) -> Checked
@@ -88,14 +89,13 @@ fn conditions(img: &[u16]) -> Checked
 pub fn check(img: &[u16]) -> Checked
     ensures { result ≡ check img.now }
 {
-    let v = shape::shape(img);
-    if numbers::is_wrong(v) {
-        return Checked {
+    match shape::shape(img) {
+        Err(WrongWord(place)) => Checked {
             code: numbers::WRONG_SHAPE,
-            number: numbers::verdict_place(v),
+            number: place,
             first: 0,
             second: 0,
-        };
+        },
+        Ok(()) => conditions(img),
     }
-    conditions(img)
 }

@@ -5,9 +5,10 @@ use Prim.Native.Nat.{ℕ, ◌<◌, ◌≤◌}
 use lib.ListN.{length}
 use borrow.Author.Tests.{lt-ltb, le-ltb}
 use Rattle.std.specs.Prelude.{Result, Ok, Err}
+use Rattle.std.specs.Result.{is_err}
 use Rattle.numbers.specs.Codes.{done, room_too_small}
 use Rattle.numbers.specs.Front.{Delivers, refuse, deliver, front}
-use Rattle.numbers.specs.Verdicts.{verdict_of}
+use Rattle.numbers.specs.Verdicts.{verdict_of, is_wrong}
 use Rattle.numbers.specs.declared.Answer.{Answer}
 use Rattle.numbers.specs.declared.WrongWord.{WrongWord}
 
@@ -37,3 +38,9 @@ same_verdict (Ok u) (Ok v) e = refl
 same_verdict (Ok u) (Err w) e = cc
 same_verdict (Err v) (Ok u) e = cc
 same_verdict (Err v) (Err w) e = let z : v.0 ≡ w.0 = cc in ap (λ n. Err (record { 0 = n })) z
+
+-- A result is an error exactly where its verdict is wrong.
+pub err_is_wrong : (r : Result (Unit {0}) WrongWord) → is_wrong (verdict_of r) ≡ is_err r
+unfolding is_wrong
+err_is_wrong (Ok u) = refl
+err_is_wrong (Err w) = refl

@@ -8,7 +8,7 @@ use native.Mathlib.Numerals.{add-one}
 use native.Mathlib.Omega.{arith}
 use lib.ListN.{length, get_or-eq_default}
 use borrow.Author.Tests.{eq-eqb, ne_eqb, eqb-true, leb-true, ltb-true}
-use Rattle.numbers.specs.Verdicts.{Verdict, Good, Wrong}
+use Rattle.numbers.specs.Verdicts.{Verdict, Good, Wrong, is_wrong}
 use Rattle.pack.specs.Image.{word, size_words, terminals, states, nonterminals, scan_states, classes, goto_start, move_start, least_size, greatest_size, needed}
 use Rattle.order.specs.Shape.{rule, and_then, each, size_rule, length_rule, head_rules, dom_rule, act_rule, cell_rule, goto_rules, move_rules, scan_rule}
 use Rattle.order.specs.declared.Ruled.TheVariants.{Dom, Act, Scan}
@@ -30,6 +30,16 @@ pub and_then_good : (a b : Verdict) → and_then a b ≡ Good → (a ≡ Good) �
 unfolding and_then
 and_then_good Good b e = (refl, e)
 and_then_good (Wrong p) b e = let z : ◌≡◌ {A = ℕ} 0 1 = cc in absurd (omega arith)
+
+pub is_good : (v : Verdict) → is_wrong v ≡ false → v ≡ Good
+unfolding is_wrong
+is_good Good e = refl
+is_good (Wrong p) e = let z : ◌≡◌ {A = ℕ} 0 1 = cc in absurd (omega arith)
+
+pub is_wrong_lem : (v : Verdict) → is_wrong v ≡ true → (p : ℕ) × (v ≡ Wrong p)
+unfolding is_wrong
+is_wrong_lem Good e = let z : ◌≡◌ {A = ℕ} 0 1 = cc in absurd (omega arith)
+is_wrong_lem (Wrong p) e = (p, refl)
 
 -- A chain of tests: the first that is wrong is the answer, and one that is good leaves the answer to the next.
 pub then_wrong : (a b : Verdict) (p : ℕ) → a ≡ Wrong p → and_then a b ≡ Wrong p

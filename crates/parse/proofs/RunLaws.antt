@@ -11,13 +11,11 @@ use lib.ListN.{length, get_or, take, drop, take-append-drop, replicate, length-r
 use lib.Seq.{length-take-le, drop-drop}
 use borrow.Author.Tests.{eq-eqb, ne_eqb, lt-ltb, le-ltb}
 use Rattle.std.specs.Prelude.{Result, Ok, Err}
-use Rattle.numbers.specs.declared.Verdict.{Verdict}
+use Rattle.numbers.specs.Verdicts.{Good, Wrong}
 use Rattle.numbers.specs.Codes.{query_too_long, wrong_shape}
 use Rattle.pack.specs.Image.{states, act, action_of}
 use Rattle.pack.specs.Laid.{Laid}
-use Rattle.numbers.specs.Verdicts.{is_wrong, verdict_place}
 use Rattle.shape.specs.Shape.{shape}
-use Rattle.shape.proofs.Laws.{is_good, is_wrong_lem}
 use Rattle.look.specs.declared.Spot.{Spot}
 use Rattle.look.specs.declared.Looked.{Looked}
 use Rattle.look.specs.Look.{look}
@@ -176,13 +174,11 @@ module _ (img text tree : List ℕ) (allowance : ℕ) where
   unfolding parse
   parse_long h = simp (parse, lt-ltb _ _ h)
 
-  module _ (h : length text ≤ 65535) {v : Verdict} (e : v ≡ shape img) where
-    pub parse_wrong : {p : ℕ} → is_wrong v ≡ true → p ≡ verdict_place v → before wrong_shape p ≡ parse img text tree allowance
-    unfolding parse verdict_place
-    parse_wrong w ep =
-        let q = is_wrong_lem v w in
-        simp (parse, le-ltb _ _ h, sym e ∙ q.1) (ap (before wrong_shape) (ep ∙ ap verdict_place q.1))
-
-    pub parse_runs : is_wrong v ≡ false → run img (look img text allowance) (room_of tree) start ≡ parse img text tree allowance
+  module _ (h : length text ≤ 65535) where
+    pub parse_wrong : (p : ℕ) → Wrong p ≡ shape img → before wrong_shape p ≡ parse img text tree allowance
     unfolding parse
-    parse_runs g = simp (parse, le-ltb _ _ h, sym e ∙ is_good v g)
+    parse_wrong p e = simp (parse, le-ltb _ _ h, sym e)
+
+    pub parse_runs : Good ≡ shape img → run img (look img text allowance) (room_of tree) start ≡ parse img text tree allowance
+    unfolding parse
+    parse_runs g = simp (parse, le-ltb _ _ h, sym g)

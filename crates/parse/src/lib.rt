@@ -5,6 +5,7 @@ ghost use Rattle.std.specs.Prelude.{◌≡◌};
 ghost use Rattle.records.specs.Parse.{before, parse, tree_after};
 
 pub use leaf::{Part, leaf, leaf_part};
+use numbers::WrongWord;
 pub use records::Parsed;
 
 mod run; // run.rt: turn after turn
@@ -31,9 +32,8 @@ pub fn parse(img: &[u16], text: &[u8], tree: &mut [u16], allowance: u32) -> Pars
     if numbers::LONGEST_TEXT < text.len() {
         return refusal(numbers::QUERY_TOO_LONG, 0);
     }
-    let v = shape::shape(img);
-    if numbers::is_wrong(v) {
-        return refusal(numbers::WRONG_SHAPE, numbers::verdict_place(v));
+    match shape::shape(img) {
+        Err(WrongWord(place)) => refusal(numbers::WRONG_SHAPE, place),
+        Ok(()) => run::run(img, text, tree, allowance),
     }
-    run::run(img, text, tree, allowance)
 }

@@ -8,7 +8,7 @@ ghost use Rattle.readlines.specs.Steps.{ReadsLines};
 ghost use Rattle.text.specs.Reader.{read_head, read_in, judge, read};
 ghost use Rattle.text.specs.Reader.Lines.{all};
 
-use numbers::{Answer, Verdict};
+use numbers::{Answer, WrongWord};
 use readlines::Cursor;
 use text::Form;
 
@@ -23,13 +23,12 @@ const MIDDLE_IMAGE: usize = 4096;
 fn judge(img: &[u16], buffer: &mut [u16]) -> Answer
     ensures { Delivers (judge 0 (λ w. deliver w (length buffer.old)) (all img.now [])) buffer.old buffer.new result }
 {
-    let verdict = shape::shape(img);
-    match verdict {
-        Verdict::Wrong(place) => Answer {
+    match shape::shape(img) {
+        Err(WrongWord(place)) => Answer {
             code: numbers::WRONG_SHAPE,
             number: place,
         },
-        Verdict::Good => numbers::deliver(img, buffer),
+        Ok(()) => numbers::deliver(img, buffer),
     }
 }
 

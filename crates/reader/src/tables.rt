@@ -6,7 +6,6 @@ ghost use Rattle.text.specs.Reader.{then_lines, read_lines, read_tables, read_he
 ghost use Rattle.readlines.specs.Steps.{lines_of, ReadsLines};
 
 use firstline::first_line;
-use numbers::is_wrong;
 use readlines::{Cursor, ended, read_lines};
 use rows::read_line;
 use text::{Form, Row};
@@ -33,7 +32,7 @@ pub fn read_head(text: &[u8], form: Form, head: &mut [u16]) -> Cursor
             words: 1,
         };
     }
-    if is_wrong(shape::sizes(head)) {
+    if shape::sizes(head).is_err() {
         return Cursor {
             ok: false,
             at: start,

@@ -1,6 +1,6 @@
 -- One law for each way out of the loop of a scan, and one for its end, over what the callees ensure and the tests say, in the order
 -- of the code. Assumes nothing.
-use mathlib.Core.Path.{◌≡◌, refl, sym, ap, ◌∙◌}
+use mathlib.Core.Path.{◌≡◌, refl, sym, ◌∙◌}
 use mathlib.Core.List.{List}
 use mathlib.Core.Bool.{Bool, true, false}
 use Prim.Native.Nat.{ℕ, zero, suc, ◌+◌, ◌-◌, ◌<◌, ◌≤◌, min}
@@ -12,12 +12,10 @@ use lib.Bits.{bit_and}
 use lib.Dec.{ltb}
 use borrow.Author.Tests.{eq-eqb, ne_eqb, lt-ltb, le-ltb, ltb-true, ltb-false}
 use Rattle.sets.specs.Sets.{meet, is_empty}
-use Rattle.numbers.specs.declared.Verdict.{Verdict}
+use Rattle.numbers.specs.Verdicts.{Good, Wrong}
 use Rattle.numbers.specs.Codes.{query_too_long, wrong_shape}
 use Rattle.pack.specs.Image.{class_of, move, acc, rej, poss, all_but_end}
-use Rattle.numbers.specs.Verdicts.{is_wrong, verdict_place}
 use Rattle.shape.specs.Shape.{shape}
-use Rattle.shape.proofs.Laws.{is_good, is_wrong_lem}
 use Rattle.scan.specs.declared.Remembered.{Remembered}
 use Rattle.scan.specs.declared.Stop.{Stop}
 use Rattle.scan.specs.Scan.{nothing, remember, stopped, used_up, move_on, onward, scan_from, scan, stop_code, refused, scan_alone}
@@ -87,15 +85,13 @@ module _ (img text : List ℕ) (start set allowance : ℕ) where
   unfolding scan_alone
   alone_long h = simp (scan_alone, lt-ltb _ _ h)
 
-  module _ (h : length text ≤ 65535) {v : Verdict} (e : v ≡ shape img) where
-    pub alone_wrong : {p : ℕ} → is_wrong v ≡ true → p ≡ verdict_place v → refused wrong_shape p ≡ scan_alone img text start set allowance
-    unfolding scan_alone verdict_place
-    alone_wrong w ep =
-        let q = is_wrong_lem v w in
-        simp (scan_alone, le-ltb _ _ h, sym e ∙ q.1) (ap (refused wrong_shape) (ep ∙ ap verdict_place q.1))
+  module _ (h : length text ≤ 65535) where
+    pub alone_wrong : (p : ℕ) → Wrong p ≡ shape img → refused wrong_shape p ≡ scan_alone img text start set allowance
+    unfolding scan_alone
+    alone_wrong p e = simp (scan_alone, le-ltb _ _ h, sym e)
 
-    pub alone_scan : {p t k : ℕ} {rest : List ℕ} {stop : Stop} → is_wrong v ≡ false → p ≡ min start (length text) → t ≡ all_but_end img → rest ≡ drop p text
+    pub alone_scan : {p t k : ℕ} {rest : List ℕ} {stop : Stop} → Good ≡ shape img → p ≡ min start (length text) → t ≡ all_but_end img → rest ≡ drop p text
         → stop ≡ scan img (bit_and set t) allowance rest → k ≡ stop_code stop.spent
         → record { code = k; place = p; set = stop.set; length = stop.length; moves = stop.moves } ≡ scan_alone img text start set allowance
     unfolding scan_alone
-    alone_scan g ep et er es ek = simp (scan_alone, le-ltb _ _ h, sym e ∙ is_good v g, ← ep, ← et, ← er, ← es, ← ek)
+    alone_scan g ep et er es ek = simp (scan_alone, le-ltb _ _ h, sym g, ← ep, ← et, ← er, ← es, ← ek)

@@ -10,6 +10,7 @@ ghost use Rattle.classes.specs.Ready.{Ready};
 ghost use Rattle.index.specs.Index.{Indexed};
 ghost use Rattle.scan.specs.Scan.{remember, stopped, used_up, scan, stop_code, refused, scan_alone};
 
+use numbers::WrongWord;
 use pack::image;
 
 // So many bytes make a scan a long one, for which an index of the ranges pays.
@@ -222,9 +223,8 @@ pub fn scan(img: &[u16], text: &[u8], start: usize, set: u64, allowance: u32) ->
     if numbers::LONGEST_TEXT < text.len() {
         return refusal(numbers::QUERY_TOO_LONG, 0);
     }
-    let v = shape::shape(img);
-    if numbers::is_wrong(v) {
-        return refusal(numbers::WRONG_SHAPE, numbers::verdict_place(v));
+    if let Err(WrongWord(place)) = shape::shape(img) {
+        return refusal(numbers::WRONG_SHAPE, place);
     }
     let place = within(start, text.len());
     let stop = any_scan(

@@ -7,7 +7,7 @@ ghost use Rattle.pack.specs.Laid.{Sized};
 ghost use Rattle.text.specs.declared.Form.TheVariants.{One, Two};
 ghost use Rattle.text.specs.Writer.{text_of, write_good, write};
 
-use numbers::{Answer, Verdict};
+use numbers::{Answer, WrongWord};
 use putfields::{Buffer, Counter};
 use putlines::write_text;
 use text::Form;
@@ -50,13 +50,12 @@ fn write_in(img: &[u16], buffer: &mut [u8], form: Form) -> Answer
     ensures value { result ≡ (write form img.now buffer.old).answer }
     ensures buffer_after { buffer.new ≡ buffer_after buffer.old (write form img.now buffer.old) }
 {
-    let verdict = shape::shape(img);
-    match verdict {
-        Verdict::Wrong(place) => Answer {
+    match shape::shape(img) {
+        Err(WrongWord(place)) => Answer {
             code: numbers::WRONG_SHAPE,
             number: place,
         },
-        Verdict::Good => write_good(img, buffer, form),
+        Ok(()) => write_good(img, buffer, form),
     }
 }
 
