@@ -2,8 +2,7 @@
 use Rattle.std.specs.Prelude.{true, false, List, [], ◌∷◌, ℕ, ltb, length, get_or}
 use Rattle.numbers.specs.Front.{Delivery, deliver, buffer_after}
 use Rattle.numbers.specs.declared.Answer.{Answer}
-use Rattle.numbers.specs.declared.Verdict.{Verdict}
-use Rattle.numbers.specs.Verdicts.{verdict_code, verdict_place}
+use Rattle.numbers.specs.Verdicts.{Verdict, verdict_code, verdict_place}
 use Rattle.conditions.specs.declared.Checked.{Checked}
 use Rattle.scan.specs.declared.Scanned.{Scanned}
 use Rattle.records.specs.declared.Parsed.{Parsed}

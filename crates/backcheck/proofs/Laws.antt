@@ -7,7 +7,7 @@ use native.Mathlib.Omega.{arith}
 use lib.Dec.{eqb, ltb}
 use borrow.Author.Tests.{eqb-true, ltb-true, ltb-false}
 use Rattle.pack.specs.Image.{terminals, productions, states, len, act}
-use Rattle.numbers.specs.declared.Verdict.TheVariants.{Good}
+use Rattle.numbers.specs.Verdicts.{Good}
 use Rattle.shape.specs.Shape.{shape}
 use Rattle.shape.proofs.GoodParser.{good_reduce}
 use Rattle.conditions.specs.Tests.{all_below, implies}

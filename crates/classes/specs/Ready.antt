@@ -2,7 +2,7 @@
 use Rattle.std.specs.Prelude.{◌≡◌, List, ℕ, ◌+◌, ◌<◌, ◌≤◌}
 use Rattle.pack.specs.Image.{lo}
 use Rattle.pack.specs.Laid.{Laid}
-use Rattle.numbers.specs.declared.Verdict.TheVariants.{Good}
+use Rattle.numbers.specs.Verdicts.{Good}
 use Rattle.shape.specs.Shape.{shape}
 
 -- A pack of good shape: what a scan needs, asked for once.

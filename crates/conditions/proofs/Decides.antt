@@ -9,7 +9,7 @@ use borrow.Author.Tests.{eq-eqb, le-leb, eqb-true, leb-true}
 use Rattle.sets.specs.Sets.{member, meet, several, subset}
 use Rattle.sets.proofs.Laws.{has-and, has-lt}
 use Rattle.pack.specs.Image.{terminals, states, classes, dom, lhs, len, symbol, act, goto, move, acc, rej, poss, start_symbol}
-use Rattle.numbers.specs.declared.Verdict.TheVariants.{Good}
+use Rattle.numbers.specs.Verdicts.{Good}
 use Rattle.shape.specs.Shape.{shape}
 use Rattle.shape.proofs.Good.{good_laid}
 use Rattle.conditions.specs.Edges.{Edge, Back, symbols, leads, enters, only_on, reached}

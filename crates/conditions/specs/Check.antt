@@ -1,7 +1,7 @@
 -- Manual, section 4.7: the answer of the check: after shape, the first condition that fails, in order, with its least places.
 use Rattle.std.specs.Prelude.{◌≡◌, Bool, true, false, List, [], ◌∷◌, ℕ, zero, suc, ◌+◌, ◌<◌}
 use Rattle.numbers.specs.Codes.{done, wrong_shape, check_fails}
-use Rattle.numbers.specs.declared.Verdict.TheVariants.{Good, Wrong}
+use Rattle.numbers.specs.Verdicts.{Good, Wrong}
 use Rattle.pack.specs.Image.{productions, states, scan_states, act}
 use Rattle.shape.specs.Shape.{shape}
 use Rattle.conditions.specs.declared.Checked.{Checked}

@@ -2,7 +2,7 @@
 -- that is computed, `k1` to `k6`. That each test decides its property is proved in proofs/Decides.antt.
 use Rattle.std.specs.Prelude.{◌≡◌, Bool, true, ◌&&◌, List, ℕ, zero, suc, ◌+◌, ◌*◌, ◌-◌, ◌<◌, eqb, leb}
 use Rattle.sets.specs.Sets.{has, member, meet, union, subset, several}
-use Rattle.numbers.specs.declared.Verdict.TheVariants.{Good}
+use Rattle.numbers.specs.Verdicts.{Good}
 use Rattle.pack.specs.Image.{terminals, productions, states, scan_states, classes, groups, layout, dom, lhs, len, symbol, act, goto, move, acc, rej, poss, group_set, valid_set, start_symbol}
 use Rattle.shape.specs.Shape.{shape}
 use Rattle.conditions.specs.Tests.{all_below, some_below, implies, same}

@@ -4,7 +4,7 @@
 ghost use Rattle.std.specs.Prelude.{◌≡◌, ℕ, ◌+◌, ◌<◌, length};
 ghost use Rattle.pack.specs.Image.{nonterminals, states, goto};
 ghost use Rattle.pack.specs.Laid.{Laid};
-ghost use Rattle.numbers.specs.declared.Verdict.TheVariants.{Good};
+ghost use Rattle.numbers.specs.Verdicts.{Good};
 ghost use Rattle.shape.specs.Shape.{shape};
 ghost use Rattle.conditions.specs.Edges.{symbols, shift_of, edge_to};
 ghost use Rattle.conditions.specs.Conditions.{reduces};

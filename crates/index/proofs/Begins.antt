@@ -13,7 +13,7 @@ use lib.Pow.{pow-add}
 use lib.Dec.{leb}
 use borrow.Author.Count.{below_more}
 use borrow.Author.Tests.{leb-true, leb-false}
-use Rattle.numbers.specs.declared.Verdict.TheVariants.{Good}
+use Rattle.numbers.specs.Verdicts.{Good}
 use Rattle.pack.specs.Image.{classes, ranges, lo, hi, range_class, class_in, class_of}
 use Rattle.pack.specs.Laid.{Laid}
 use Rattle.shape.specs.Shape.{shape}

@@ -12,7 +12,7 @@ use lib.Bits.{or_lt}
 use borrow.Author.Tests.{eq-eqb, ne_eqb, le-leb, lt-leb, leb-true, leb-false, eqb-true, eqb-false}
 use Rattle.sets.specs.Sets.{has, member, is_empty, lowest}
 use Rattle.sets.proofs.Laws.{has_above}
-use Rattle.numbers.specs.declared.Verdict.TheVariants.{Good}
+use Rattle.numbers.specs.Verdicts.{Good}
 use Rattle.pack.specs.Image.{terminals, layout, all_but_end_and_layout, valid_set}
 use Rattle.shape.specs.Shape.{shape}
 use Rattle.pack.proofs.Valid.{valid_lt}

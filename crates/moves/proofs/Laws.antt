@@ -7,8 +7,7 @@ use lib.ListN.{length, take, drop}
 use lib.Seq.{take_at}
 use borrow.Author.Tests.{lt-ltb, le-ltb}
 use Rattle.numbers.specs.declared.Answer.{Answer}
-use Rattle.numbers.specs.declared.Verdict.{Verdict}
-use Rattle.numbers.specs.declared.Verdict.TheVariants.{Good, Wrong}
+use Rattle.numbers.specs.Verdicts.{Verdict, Good, Wrong}
 use Rattle.numbers.specs.Codes.{not_the_form, text_too_long, longest_text}
 use Rattle.numbers.specs.Front.{Delivery, Delivers, buffer_after}
 use Rattle.numbers.proofs.Laws.{answer, deliver_all}

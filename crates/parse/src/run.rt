@@ -1,6 +1,6 @@
 // Turn after turn.
 ghost use Rattle.std.specs.Prelude.{◌≡◌, ◌-◌, ◌*◌, ◌/◌, ◌<◌, ◌≤◌, min, length};
-ghost use Rattle.numbers.specs.declared.Verdict.TheVariants.{Good};
+ghost use Rattle.numbers.specs.Verdicts.{Good};
 ghost use Rattle.pack.specs.Image.{states};
 ghost use Rattle.shape.specs.Shape.{shape};
 ghost use Rattle.records.specs.Inner.{Stacked, KeptTurn, IsLooked, standing, bounded, told, looked_at, parsed_of};

@@ -8,7 +8,7 @@ use native.Mathlib.Omega.{arith}
 use lib.ListN.{length, take, length-append}
 use borrow.Author.Tests.{le-ltb}
 use Rattle.numbers.specs.Codes.{done}
-use Rattle.numbers.specs.declared.Verdict.TheVariants.{Good}
+use Rattle.numbers.specs.Verdicts.{Good}
 use Rattle.numbers.proofs.Laws.{deliver_all}
 use Rattle.pack.specs.Image.{terminals, productions, states, lhs, len, act, goto, symbols_from, right_side, of_nonterminal}
 use Rattle.shape.specs.Shape.{shape}

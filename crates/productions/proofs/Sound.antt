@@ -10,7 +10,7 @@ use lib.ListN.{length, get_or, take, drop}
 use borrow.Author.Tests.{eq-eqb, le-leb, lt-leb, lt-ltb, le-ltb, eqb-false, leb-true, ltb-true, ltb-false}
 use Rattle.sets.specs.Sets.{member, several, lowest}
 use Rattle.sets.proofs.Laws.{out_lacks}
-use Rattle.numbers.specs.declared.Verdict.TheVariants.{Good}
+use Rattle.numbers.specs.Verdicts.{Good}
 use Rattle.pack.specs.Image.{word, most_symbols, production_words, first_nonterminal, terminals, nonterminals, productions, prod_start, act_start, prod_at, symbol_at, layout, lhs, len, symbol}
 use Rattle.pack.specs.Laid.{Laid}
 use Rattle.rules.specs.Rules.{is_symbol, symbol_right}

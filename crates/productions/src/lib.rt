@@ -5,7 +5,7 @@
 ghost use Rattle.std.specs.Prelude.{◌≡◌, true, ℕ, ◌+◌, ◌-◌, ◌<◌, ◌≤◌, min, length, get_or};
 ghost use Rattle.pack.specs.Image.{set_words, most_symbols, productions, layout, symbol};
 ghost use Rattle.pack.specs.Laid.{Laid};
-ghost use Rattle.numbers.specs.declared.Verdict.TheVariants.{Good};
+ghost use Rattle.numbers.specs.Verdicts.{Good};
 ghost use Rattle.order.specs.Quick.{sum};
 ghost use Rattle.order.specs.Shape.{each, prod_rule};
 ghost use Rattle.productions.specs.Flat.{past, no_terminal, no_symbol, allowed, Head, Heads, Covers};

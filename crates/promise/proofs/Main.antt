@@ -10,7 +10,7 @@ use Rattle.sets.specs.Sets.{has, meet}
 use Rattle.numbers.specs.Codes.{done, no_group, stuck, longest_text, no_terminal}
 use Rattle.pack.specs.Image.{terminals, scan_states, dom, act, acc, needed, largest_image, first_nonterminal}
 use Rattle.pack.specs.Laid.{Sized}
-use Rattle.numbers.specs.declared.Verdict.TheVariants.{Good}
+use Rattle.numbers.specs.Verdicts.{Good}
 use Rattle.shape.specs.Shape.{shape}
 use Rattle.shape.proofs.Good as Shape
 use Rattle.conditions.specs.Conditions.{K1, K2, Passes, matched}

@@ -10,7 +10,7 @@ use borrow.Author.Tests.{ltb-true, ltb-false}
 use Rattle.sets.specs.Sets.{has, meet, less, single}
 use Rattle.sets.proofs.Laws.{has-lt, has_none, has_above, has-suc, has-and, has-or, has_less, ext}
 use Rattle.pack.specs.Image.{terminals, scan_states, acc, rej}
-use Rattle.numbers.specs.declared.Verdict.TheVariants.{Good}
+use Rattle.numbers.specs.Verdicts.{Good}
 use Rattle.shape.specs.Shape.{shape}
 use Rattle.shape.proofs.Good.{good_acc, good_rej}
 use Rattle.conditions.specs.Conditions.{matched}

@@ -11,7 +11,7 @@ use borrow.Author.Tests.{eqb-true, eqb-false}
 use Rattle.sets.specs.Sets.{has, lacks, meet}
 use Rattle.sets.proofs.Laws.{has-lt, has_none, has-and, has-or}
 use Rattle.pack.specs.Image.{terminals, states, scan_states, layout, dom, act, action_of, acc, rej, valid_set}
-use Rattle.numbers.specs.declared.Verdict.TheVariants.{Good}
+use Rattle.numbers.specs.Verdicts.{Good}
 use Rattle.rules.specs.Rules.{act_right}
 use Rattle.parserules.proofs.Laws.{layout_column}
 use Rattle.shape.specs.Shape.{parser_rules, act_rule, shape}

@@ -5,7 +5,7 @@ use mathlib.Core.List.{List}
 use Prim.Native.Nat.{ℕ}
 use Rattle.numbers.specs.Front.{buffer_after}
 use Rattle.numbers.specs.declared.Answer.{Answer}
-use Rattle.numbers.specs.declared.Verdict.{Verdict}
+use Rattle.numbers.specs.Verdicts.{Verdict}
 use Rattle.shape.specs.Shape.{shape}
 use Rattle.conditions.specs.declared.Checked.{Checked}
 use Rattle.conditions.specs.Check.{check}

@@ -12,7 +12,7 @@ use borrow.Author.Tests.{eqb-true, eqb-false, ltb-true, ltb-false}
 use Rattle.sets.specs.Sets.{has, meet, several}
 use Rattle.sets.proofs.Laws.{has_none, has-and}
 use Rattle.pack.specs.Image.{groups, act, acc, group_set, chosen}
-use Rattle.numbers.specs.declared.Verdict.TheVariants.{Good}
+use Rattle.numbers.specs.Verdicts.{Good}
 use Rattle.rules.specs.Rules.{fits, differs, group_right}
 use Rattle.shape.specs.Shape.{scanner_rules, group_rule, shape}
 use Rattle.shape.proofs.Laws.{both, rule_good, and_then_good, each_at}

@@ -5,7 +5,7 @@
 
 ghost use Rattle.std.specs.Prelude.{◌≡◌, true, false, ℕ, ◌+◌, ◌-◌, ◌*◌, ◌%◌, ◌<◌, ◌≤◌, length};
 ghost use Rattle.sets.specs.Sets.{member, several};
-ghost use Rattle.numbers.specs.declared.Verdict.TheVariants.{Good};
+ghost use Rattle.numbers.specs.Verdicts.{Good};
 ghost use Rattle.order.specs.declared.Ruled.TheVariants.{Dom, Act, Scan};
 ghost use Rattle.pack.specs.Image.{set_words, terminals, states, scan_states, act_start, layout, dom, act};
 ghost use Rattle.pack.specs.Laid.{Laid};

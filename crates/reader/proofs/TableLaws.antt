@@ -13,9 +13,7 @@ use Rattle.numbers.specs.Codes.{not_the_form, text_too_long, wrong_shape, longes
 use Rattle.numbers.specs.Front.{front, deliver, Delivers, buffer_after}
 use Rattle.numbers.proofs.Laws.{answer, deliver_all}
 use Rattle.pack.specs.Laid.{Sized}
-use Rattle.numbers.specs.declared.Verdict.{Verdict}
-use Rattle.numbers.specs.declared.Verdict.TheVariants.{Good, Wrong}
-use Rattle.numbers.specs.Verdicts.{is_wrong}
+use Rattle.numbers.specs.Verdicts.{Verdict, Good, Wrong, is_wrong}
 use Rattle.shape.specs.Shape.{each, size_rule, shape}
 use Rattle.shape.proofs.Laws.{is_good, is_wrong_lem, sizes_sized}
 use Rattle.text.specs.declared.Form.{Form}

@@ -5,7 +5,7 @@ use Rattle.numbers.specs.Front.{front}
 use Rattle.words.specs.declared.Action.{Action}
 use Rattle.words.specs.declared.Action.TheVariants.{Error, Accept, Shift, Reduce}
 use Rattle.pack.specs.Image.{act, action_of, goto, lhs, len, of_nonterminal}
-use Rattle.numbers.specs.declared.Verdict.TheVariants.{Good, Wrong}
+use Rattle.numbers.specs.Verdicts.{Good, Wrong}
 use Rattle.shape.specs.Shape.{shape}
 use Rattle.look.specs.declared.Spot.{Spot}
 use Rattle.look.specs.declared.Looked.{Looked}

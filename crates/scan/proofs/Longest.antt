@@ -13,7 +13,7 @@ use lib.Bits.{bit_and, bit_or, and_zero_l, and_le_l, or_lt}
 use borrow.Author.Tests.{eq-eqb, eqb-true, eqb-false, ltb-true, ltb-false}
 use Rattle.sets.specs.Sets.{has, is_empty}
 use Rattle.sets.proofs.Laws.{has-lt, has_none, has-and, has-or, empty}
-use Rattle.numbers.specs.declared.Verdict.TheVariants.{Good}
+use Rattle.numbers.specs.Verdicts.{Good}
 use Rattle.pack.specs.Image.{terminals, scan_states, class_of, dom, move, acc, rej, poss}
 use Rattle.shape.specs.Shape.{shape}
 use Rattle.shape.proofs.Good.{good_laid, good_move, good_class, good_acc, good_rej, good_disjoint, good_start}

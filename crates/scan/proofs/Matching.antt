@@ -8,7 +8,7 @@ use native.Mathlib.Omega.{arith}
 use lib.Dec.{ltb}
 use lib.Bits.{and_zero_l}
 use borrow.Author.Tests.{ltb-true, ltb-false}
-use Rattle.numbers.specs.declared.Verdict.TheVariants.{Good}
+use Rattle.numbers.specs.Verdicts.{Good}
 use Rattle.pack.specs.Image.{scan_states, class_of, move}
 use Rattle.shape.specs.Shape.{shape}
 use Rattle.shape.proofs.Good.{good_start, good_laid, good_move, good_class}

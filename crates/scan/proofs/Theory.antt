@@ -11,7 +11,7 @@ use lib.Bits.{bit_and, and_le_l}
 use borrow.Author.Tests.{eqb-true, eqb-false}
 use Rattle.sets.specs.Sets.{has, is_empty}
 use Rattle.sets.proofs.Laws.{has-lt, has_none, has-and, ext}
-use Rattle.numbers.specs.declared.Verdict.TheVariants.{Good}
+use Rattle.numbers.specs.Verdicts.{Good}
 use Rattle.pack.specs.Image.{terminals, scan_states, class_of, move, acc, rej, poss}
 use Rattle.shape.specs.Shape.{shape}
 use Rattle.shape.proofs.Good.{good_laid, good_move, good_class, good_acc, good_rej, good_poss}

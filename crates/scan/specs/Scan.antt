@@ -1,7 +1,7 @@
 -- Manual, sections 2.1 and 2.3: one scan, and the scan called by itself.
 use Rattle.std.specs.Prelude.{Bool, true, false, List, [], ◌∷◌, ℕ, zero, suc, ◌+◌, min, ltb, length, drop}
 use Rattle.sets.specs.Sets.{meet, is_empty}
-use Rattle.numbers.specs.declared.Verdict.TheVariants.{Good, Wrong}
+use Rattle.numbers.specs.Verdicts.{Good, Wrong}
 use Rattle.numbers.specs.Codes.{done, wrong_shape, query_too_long, allowance_used_up, longest_text}
 use Rattle.pack.specs.Image.{class_of, move, acc, rej, poss, all_but_end}
 use Rattle.shape.specs.Shape.{shape}

@@ -7,8 +7,7 @@ use native.Mathlib.Omega.{arith}
 use lib.Dec.{ltb}
 use lib.ListN.{length}
 use borrow.Author.Tests.{le-ltb, ltb-false}
-use Rattle.numbers.specs.declared.Verdict.{Verdict}
-use Rattle.numbers.specs.declared.Verdict.TheVariants.{Good, Wrong}
+use Rattle.numbers.specs.Verdicts.{Verdict, Good, Wrong}
 use Rattle.numbers.specs.Front.{deliver}
 use Rattle.shape.specs.Shape.{shape}
 use Rattle.text.specs.declared.Form.{Form}

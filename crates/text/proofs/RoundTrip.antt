@@ -9,8 +9,7 @@ use lib.Dec.{ltb}
 use lib.ListN.{length, take}
 use lib.Seq.{take-length, get_or-take, length-take-le}
 use borrow.Author.Tests.{lt-ltb, le-ltb, ltb-false, leb-true, eqb-true}
-use Rattle.numbers.specs.declared.Verdict.{Verdict}
-use Rattle.numbers.specs.declared.Verdict.TheVariants.{Good, Wrong}
+use Rattle.numbers.specs.Verdicts.{Verdict, Good, Wrong}
 use Rattle.pack.specs.Image.{word, productions, prod_start, layout_at, len, symbol}
 use Rattle.rules.specs.Rules.{symbol_right}
 use Rattle.shape.specs.Shape.{each, size_rule, symbol_rule, prod_rule, head_rules, parser_rules, shape}

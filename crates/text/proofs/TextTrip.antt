@@ -23,8 +23,7 @@ use Rattle.text.specs.Reader.{Line, Lines, then_read, expect, field_then, read_f
 use Rattle.text.specs.Reader.Line.{wrong, took}
 use Rattle.text.specs.Reader.Lines.{wrong_from, all}
 use Rattle.text.specs.Writer.{fields_text, cells_text, row_text, lines_text, tables_text, text_of}
-use Rattle.numbers.specs.declared.Verdict.{Verdict}
-use Rattle.numbers.specs.declared.Verdict.TheVariants.{Good, Wrong}
+use Rattle.numbers.specs.Verdicts.{Verdict, Good, Wrong}
 use Rattle.pack.specs.Image.{layout_at}
 use Rattle.shape.specs.Shape.{each, size_rule}
 use Rattle.text.proofs.Decimal.{number_text, number_small, number_unread}

@@ -2,7 +2,7 @@
 -- belong to the form of their lines. What is read are the bytes that are left; what has been read are the words of the image so far.
 use Rattle.std.specs.Prelude.{Bool, true, false, List, [], ◌∷◌, ◌++◌, ℕ, zero, suc, ◌+◌, ◌-◌, eqb, leb, ltb, length, drop}
 use Rattle.pack.specs.Image.{most_symbols}
-use Rattle.numbers.specs.declared.Verdict.TheVariants.{Good, Wrong}
+use Rattle.numbers.specs.Verdicts.{Good, Wrong}
 use Rattle.numbers.specs.Codes.{not_the_form, text_too_long, wrong_shape, longest_text}
 use Rattle.shape.specs.Shape.{shape, each, size_rule}
 use Rattle.text.specs.declared.Form.{Form}

@@ -1,6 +1,6 @@
 -- Manual, sections 1.2, 1.7 and 5.2: writing a pack text in one form or the other. It is refused by 4, 2 and 3, in that order.
 use Rattle.std.specs.Prelude.{Bool, true, false, List, [], ◌∷◌, ◌++◌, ℕ, zero, suc, ◌+◌, ◌*◌, ltb, length, get_or}
-use Rattle.numbers.specs.declared.Verdict.TheVariants.{Good, Wrong}
+use Rattle.numbers.specs.Verdicts.{Good, Wrong}
 use Rattle.numbers.specs.Codes.{text_too_long, wrong_shape, longest_text}
 use Rattle.pack.specs.Image.{layout_at, set_words}
 use Rattle.shape.specs.Shape.{shape}

@@ -9,7 +9,7 @@ use lib.ListN.{set}
 use borrow.Author.Tests.{eq-eqb, ne_eqb}
 use Rattle.sets.specs.Sets.{several, lowest}
 use Rattle.sets.proofs.Laws.{lowest_lt, lowest_in}
-use Rattle.numbers.specs.declared.Verdict.TheVariants.{Good}
+use Rattle.numbers.specs.Verdicts.{Good}
 use Rattle.pack.specs.Image.{terminals, groups, group_set, chosen}
 use Rattle.shape.specs.Shape.{shape}
 use Rattle.scan.specs.Token.{chosen_in, terminal_of}

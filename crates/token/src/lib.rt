@@ -3,7 +3,7 @@
 #![tactic(auto)]
 
 ghost use Rattle.std.specs.Prelude.{◌≡◌, ◌<◌, ◌≤◌};
-ghost use Rattle.numbers.specs.declared.Verdict.TheVariants.{Good};
+ghost use Rattle.numbers.specs.Verdicts.{Good};
 ghost use Rattle.pack.specs.Image.{terminals};
 ghost use Rattle.pack.specs.Laid.{Laid};
 ghost use Rattle.shape.specs.Shape.{shape};

@@ -4,7 +4,7 @@
 ghost use Rattle.std.specs.Prelude.{◌≡◌, true, ◌<◌, ◌≤◌};
 ghost use Rattle.pack.specs.Image.{most_symbols, states, productions, len};
 ghost use Rattle.pack.specs.Laid.{Laid};
-ghost use Rattle.numbers.specs.declared.Verdict.TheVariants.{Good};
+ghost use Rattle.numbers.specs.Verdicts.{Good};
 ghost use Rattle.shape.specs.Shape.{shape};
 ghost use Rattle.conditions.specs.Tests.{all_below};
 ghost use Rattle.conditions.specs.Conditions.{steps, ends};

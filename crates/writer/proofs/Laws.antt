@@ -8,7 +8,7 @@ use lib.ListN.{length}
 use lib.Seq.{sets-eq}
 use borrow.Author.Tests.{lt-ltb, le-ltb}
 use Rattle.numbers.specs.declared.Answer.{Answer}
-use Rattle.numbers.specs.declared.Verdict.TheVariants.{Good, Wrong}
+use Rattle.numbers.specs.Verdicts.{Good, Wrong}
 use Rattle.numbers.specs.Codes.{done, text_too_long, room_too_small, wrong_shape, longest_text}
 use Rattle.numbers.specs.Front.{Delivers, buffer_after}
 use Rattle.numbers.proofs.Laws.{answer, deliver_small, deliver_done}
