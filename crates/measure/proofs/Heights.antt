@@ -90,6 +90,10 @@ module _ (s : Standing) where
       go false f = absurd (n (e ∙ height_unsound s f))
 
 -- ---- the loop
+not_true : (x : Bool) → (x ≡ true → ⊥) → x ≡ false
+not_true true n = absurd (n refl)
+not_true false n = refl
+
 -- So many trees stand after i records, whatever the text.
 pub record Counted (tree : List ℕ) (i h : ℕ) : Type 0 where
   pub most : h ≤ i
@@ -101,20 +105,16 @@ module _ (tree : List ℕ) where
   unfolding standing
   count_start = record { most = omega arith; sound = λ text. refl; count = λ text. refl }
 
-  unsound_height : (text : List ℕ) → ((standing text tree nothing).sound ≡ true → ⊥) → 0 ≡ height_of (standing text tree nothing)
-  unsound_height text n = go (standing text tree nothing).sound refl
-    where
-      go : (x : Bool) → (standing text tree nothing).sound ≡ x → 0 ≡ height_of (standing text tree nothing)
-      go true f = absurd (n f)
-      go false f = sym (height_unsound _ f)
+  pub over_height : (n : ℕ) → n ≡ length tree / record_words → n * record_words < length tree → (text : List ℕ) → (standing text tree nothing).sound ≡ false
+  over_height n e h text = not_true (standing text tree nothing).sound (left_over text tree nothing n h (omega (arith, e)))
 
-  pub over_height : (n : ℕ) → n ≡ length tree / record_words → n * record_words < length tree → (text : List ℕ) → 0 ≡ height_of (standing text tree nothing)
-  over_height n e h text = unsound_height text (left_over text tree nothing n h (omega (arith, e)))
-
-  pub count_end : (n i h : ℕ) → n ≡ length tree / record_words → length tree ≤ n * record_words → i ≤ n → n ≤ i → Counted tree i h → (text : List ℕ) → h ≡ height_of (standing text tree nothing)
+  pub count_end : (n i h : ℕ) → n ≡ length tree / record_words → length tree ≤ n * record_words → i ≤ n → n ≤ i → Counted tree i h → (text : List ℕ)
+      → ((standing text tree nothing).sound ≡ true) × (h ≡ height_of (standing text tree nothing))
   count_end n i h e l p q k text =
-      let z : length tree ≡ i * record_words = omega (arith, e, l, p, q) in
-      k.count text ∙ sym (height_sound (up_to text tree i) (k.sound text)) ∙ ap height_of (at_end text tree i z)
+      let z : length tree ≡ i * record_words = omega (arith, e, l, p, q) in (
+        sym (ap (λ (s : Standing). s.sound) (at_end text tree i z)) ∙ k.sound text,
+        k.count text ∙ sym (height_sound (up_to text tree i) (k.sound text)) ∙ ap height_of (at_end text tree i z),
+      )
 
   module _ (i h : ℕ) (k : Counted tree i h) (there : (i + 1) * record_words ≤ length tree) {a c h' : ℕ} (ea : a ≡ get_or tree (i * record_words) 0)
       (ec : c ≡ get_or tree (i * record_words + 2) 0) (eh : h' ≡ height_after a c h) where
@@ -124,14 +124,14 @@ module _ (tree : List ℕ) where
         (sym (height_more text (get_or tree (i * record_words) 0) (get_or tree (i * record_words + 1) 0) (get_or tree (i * record_words + 2) 0) (get_or tree (i * record_words + 3) 0) (up_to text tree i) (k.sound text)))
         ∙ ap height_of (sym (step text tree i there))
 
-    pub count_wrong : h' ≡ 0 → (text : List ℕ) → 0 ≡ height_of (standing text tree nothing)
-    count_wrong z text = unsound_height text λ e.
+    pub count_wrong : h' ≡ 0 → (text : List ℕ) → (standing text tree nothing).sound ≡ false
+    count_wrong z text = not_true (standing text tree nothing).sound λ e.
         let m = sound_start text (drop ((i + 1) * record_words) tree) (up_to text tree (i + 1)) (sym (ap (λ (s : Standing). s.sound) (from_there text tree (i + 1) there)) ∙ e) in
         some_tree text _ _ _ _ (up_to text tree i) (sym (ap (λ (s : Standing). s.sound) (step text tree i there)) ∙ m)
         (sym (ap (λ (s : Standing). length s.trees) (step text tree i there)) ∙ sym (height_sound (up_to text tree (i + 1)) m) ∙ sym (after text) ∙ z)
 
-    pub count_on : (h' ≡ 0 → ⊥) → Counted tree (i + 1) h'
-    count_on n = record {
+    pub count_on : 0 < h' → Counted tree (i + 1) h'
+    count_on l = let n : h' ≡ 0 → ⊥ = λ z. omega arith in record {
       most = omega (arith, eh, height_least a c h, k.most);
       sound = λ text. (height_some (up_to text tree (i + 1)) (after text) n).0;
       count = λ text. (height_some (up_to text tree (i + 1)) (after text) n).1;

@@ -13,8 +13,7 @@ use Rattle.text.specs.Decimal.{decimal}
 use Rattle.print.specs.Print.{Tree, leaf, node, Trees, none, more, depth, depths, show, show_each, Taken}
 use Rattle.print.proofs.Records.{false-true}
 use Rattle.print.proofs.Taken.{take_deeper}
-use Rattle.measure.specs.declared.Measured.{Measured}
-use Rattle.measure.specs.Steps.{Sound, tree_at, trees_before, last_of, leaf_of, up_by, Measures}
+use Rattle.measure.specs.Steps.{Sound, tree_at, trees_before, last_of, leaf_of, up_by, Measured, Measures}
 use Rattle.measure.proofs.Sizes.{node_size}
 use Rattle.measure.proofs.Trees.{leaf_tree, leaf_back, node_tree, node_rest, Going, going_start, going_end, going_back, left_some, child_sound, going_same, going_on}
 
@@ -109,7 +108,7 @@ module _ (text tree : List ℕ) (n k levels size : ℕ) where
     not_deep = rw no_more (omega arith);
   }
 
-  pub measuring_end : {left total asked : ℕ} → asked ≡ 0 → Measuring text tree n k levels size left total asked → Result (record { deep = false; left = left; size = total })
+  pub measuring_end : {left total asked : ℕ} → asked ≤ 0 → Measuring text tree n k levels size left total asked → Result (record { deep = false; left = left; size = total })
   measuring_end e p =
       let z = ap (λ (x : Taken). x.children) (going_end p.going e) in
       record {
@@ -119,7 +118,7 @@ module _ (text tree : List ℕ) (n k levels size : ℕ) where
       }
 
   module _ (enough : (last_of text tree n k).enough ≡ true) {left total asked : ℕ} (p : Measuring text tree n k levels size left total asked)
-      (m : asked ≡ 0 → ⊥) where
+      (m : 0 < asked) where
     pub kid_left : 1 ≤ left
     kid_left = let z = left_some p.going enough m in omega arith
 

@@ -110,14 +110,17 @@ module _ {text tree : List ℕ} {n k : ℕ} where
   going_start s = record { fewer = omega arith; sound = s; same = refl }
 
   module _ {walked : Trees} {left asked : ℕ} (g : Going text tree n k walked left asked) where
-    pub going_end : asked ≡ 0 → last_of text tree n k ≡ record { enough = true; children = walked; rest = (up_to text tree left).trees }
+    pub going_end : asked ≤ 0 → last_of text tree n k ≡ record { enough = true; children = walked; rest = (up_to text tree left).trees }
     unfolding take_off
-    going_end e = g.same ∙ rw e
+    going_end e = let z : asked ≡ 0 = omega arith in g.same ∙ rw z
 
-    pub going_back : asked ≡ 0 → Back text tree n (last_of text tree n k).rest left
+    pub going_back : asked ≤ 0 → Back text tree n (last_of text tree n k).rest left
     going_back e = record { fewer = g.fewer; sound = g.sound; stand = sym (ap (λ (x : Taken). x.rest) (going_end e)) }
 
-    module _ (enough : (last_of text tree n k).enough ≡ true) (more-asked : asked ≡ 0 → ⊥) where
+    module _ (enough : (last_of text tree n k).enough ≡ true) (some_asked : 0 < asked) where
+      more-asked : asked ≡ 0 → ⊥
+      more-asked z = omega (arith, some_asked, z)
+
       still : (take_off asked (up_to text tree left).trees walked).enough ≡ true
       still = sym (ap (λ (x : Taken). x.enough) g.same) ∙ enough
 

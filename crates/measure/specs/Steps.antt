@@ -1,10 +1,11 @@
 -- What the parts of the printer ask for and promise each other: trees, heights and sizes. The public function's contract cites none of it.
-use Rattle.std.specs.Prelude.{◌≡◌, true, false, List, [], ℕ, ◌+◌, ◌*◌, ◌-◌, ◌≤◌, min, eqb, ltb, length, get_or, take, drop}
+use Rattle.std.specs.Prelude.{◌≡◌, Bool, true, false, List, [], ℕ, ◌+◌, ◌*◌, ◌-◌, ◌≤◌, min, eqb, ltb, length, get_or, take, drop, Result, Ok, Err}
 use Rattle.pack.specs.Image.{first_nonterminal}
 use Rattle.parse.specs.Leaf.{leaf_bytes}
 use Rattle.parse.specs.Parse.{record_words}
 use Rattle.print.specs.Print.{Tree, leaf, none, Standing, nothing, Taken, take_off, standing, greatest_number}
-use Rattle.measure.specs.declared.Measured.{Measured}
+use Rattle.measure.specs.declared.Measure.{Measure}
+use Rattle.measure.specs.declared.TooDeep.{TooDeep}
 
 -- ---- the trees
 
@@ -64,6 +65,17 @@ height_of s = elim s.sound [ true ↦ length s.trees | false ↦ 0 ]
 -- A size with so much more.
 abbrev pub up_by : ℕ → ℕ → ℕ
 up_by size n = min (size + n) greatest_number
+
+-- What is measured of trees: whether they are too deep; and if not, how many records are before them, and the size so far with them.
+pub record Measured : Type 0 where
+  pub deep : Bool
+  pub left : ℕ
+  pub size : ℕ
+
+-- What the walk gives, in these words.
+abbrev pub measured : Result Measure TooDeep → Measured
+measured (Ok m) = record { deep = false; left = m.left; size = m.size }
+measured (Err e) = record { deep = true; left = 0; size = 0 }
 
 -- What was measured of trees that print as these bytes, are so deep, and leave these standing.
 pub record Measures (text tree : List ℕ) (n levels size : ℕ) (bytes : List ℕ) (deepest : ℕ) (rest : List Tree) (r : Measured) : Type 0 where

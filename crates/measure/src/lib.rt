@@ -1,27 +1,19 @@
 // Whether the records are one whole tree, how deep it is, and the size of its printout.
 #![tactic(auto)]
 
-ghost use Rattle.std.specs.Prelude.{◌≡◌, true, false, List, ℕ, ◌+◌, ◌*◌, ◌<◌, ◌≤◌, length, get_or};
+ghost use Rattle.std.specs.Prelude.{◌≡◌, true, false, List, ℕ, ◌+◌, ◌*◌, ◌<◌, ◌≤◌, length, get_or, MatchOption};
 ghost use Rattle.text.specs.Decimal.{decimal};
 ghost use Rattle.print.specs.Print.{show, show_each, depth, depths, standing, nothing};
-ghost use Rattle.measure.specs.Steps.{Sound, tree_at, trees_before, last_of, bytes_of, leaf_of, height_after, height_of, up_by, Measures};
+ghost use Rattle.measure.specs.Steps.{Sound, tree_at, trees_before, last_of, bytes_of, leaf_of, height_after, height_of, up_by, Measures, measured};
 
 pub const RECORD_WORDS: usize = 4;
-
-const GREATEST: usize = 18446744073709551615;
-
-fn wide(x: u16) -> usize
-    ensures { result ≡ x }
-{
-    x as usize
-}
 
 // The word at a place.
 pub fn word(tree: &[u16], i: usize) -> usize
     requires { i < length tree.now }
     ensures { result ≡ get_or tree.now i 0 }
 {
-    wide(tree[i])
+    usize::from(tree[i])
 }
 
 // The bytes of the leaf that is record n.
@@ -33,52 +25,45 @@ pub fn leaf_bytes<'a>(text: &'a [u8], tree: &[u16], n: usize) -> &'a [u8]
     parse::leaf(text, tree[i], tree[i + 1], tree[i + 2], tree[i + 3])
 }
 
-// How many trees stand after one record more; 0 where it is wrong.
-fn height_after(first: usize, third: usize, height: usize) -> usize
+// How many trees stand after one record more, unless it is wrong.
+#[tactic(auto, unfolding(crate::specs::Steps::height_after))]
+fn height_after(first: usize, third: usize, height: usize) -> Option<usize>
     requires { height < 4611686018427387904 }
-    ensures { result ≡ height_after first third height }
+    ensures { MatchOption result (height_after first third height ≡ 0) (λ h. (h ≡ height_after first third height) × (0 < h)) }
 {
     if first == 0 {
-        return 0;
+        return None;
     }
     if first < pack::image::FIRST_NONTERMINAL {
-        return height + 1;
+        return Some(height + 1);
     }
     if height < third {
-        return 0;
+        return None;
     }
-    height - third + 1
+    Some(height - third + 1)
 }
 
-// How many trees stand after all the records; 0 where one of them is wrong, or words are left over.
-pub fn height(tree: &[u16]) -> usize
-    ensures { (text : List ℕ) → result ≡ height_of (standing text tree.now nothing) }
+// How many trees stand after all the records, unless one of them is wrong, or words are left over.
+pub fn height(tree: &[u16]) -> Option<usize>
+    ensures { (text : List ℕ) → MatchOption result ((standing text tree.now nothing).sound ≡ false) (λ h. ((standing text tree.now nothing).sound ≡ true) × (h ≡ height_of (standing text tree.now nothing))) }
 {
     let n = tree.len() / RECORD_WORDS;
     if n * RECORD_WORDS < tree.len() {
-        return 0;
+        return None;
     }
     let mut h: usize = 0;
-    let mut i: usize = 0;
-    while i < n {
+    for i in 0..n {
         let at = i * RECORD_WORDS;
-        h = height_after(word(tree, at), word(tree, at + 2), h);
-        if h == 0 {
-            return 0;
-        }
-        i += 1;
+        h = height_after(word(tree, at), word(tree, at + 2), h)?;
     }
-    h
+    Some(h)
 }
 
-// A sum, or the greatest number where it is larger.
+// A sum, or the greatest number where it would be larger.
 fn plus(a: usize, b: usize) -> usize
     ensures { result ≡ up_by a b }
 {
-    if GREATEST - a < b {
-        return GREATEST;
-    }
-    a + b
+    a.saturating_add(b)
 }
 
 // The size so far with the digits of a number.
@@ -101,34 +86,38 @@ fn with_leaf(text: &[u8], tree: &[u16], n: usize, size: usize) -> usize
     plus(with_number(plus(size, bytes), number), 3)
 }
 
-// What is measured of trees: whether they are too deep; and if not, how many records are before them, and the size so far with them.
+// Trees that were measured: how many records are before them, and the size so far with them.
 #[derive(Clone, Copy)]
-pub struct Measured {
-    pub deep: bool,
+pub struct Measure {
     pub left: usize,
     pub size: usize,
 }
 
+// Trees that have more levels of nodes than they may.
+#[derive(Clone, Copy)]
+pub struct TooDeep;
+
 // The tree that ends with record n.
 #[cycle(measure_children_measure_node)]
-pub fn measure_node(text: &[u8], tree: &[u16], n: usize, levels: usize, size: usize) -> Measured
+pub fn measure_node(
+    text: &[u8],
+    tree: &[u16],
+    n: usize,
+    levels: usize,
+    size: usize,
+) -> Result<Measure, TooDeep>
     requires { Sound text.now tree.now (n + 1) }
-    ensures { Measures text.now tree.now n levels size (show (tree_at text.now tree.now n)) (depth (tree_at text.now tree.now n)) (trees_before text.now tree.now n) result }
+    ensures { Measures text.now tree.now n levels size (show (tree_at text.now tree.now n)) (depth (tree_at text.now tree.now n)) (trees_before text.now tree.now n) (measured result) }
 {
     let i = n * RECORD_WORDS;
     if word(tree, i) < pack::image::FIRST_NONTERMINAL {
-        return Measured {
-            deep: false,
+        return Ok(Measure {
             left: n,
             size: with_leaf(text, tree, n, size),
-        };
+        });
     }
     if levels == 0 {
-        return Measured {
-            deep: true,
-            left: 0,
-            size: 0,
-        };
+        return Err(TooDeep);
     }
     let head = plus(with_number(size, word(tree, i + 1)), 2);
     measure_children(text, tree, n, word(tree, i + 2), levels - 1, head)
@@ -143,26 +132,17 @@ fn measure_children(
     k: usize,
     levels: usize,
     size: usize,
-) -> Measured
+) -> Result<Measure, TooDeep>
     requires sound { Sound text.now tree.now n }
     requires enough_trees { (last_of text.now tree.now n k).enough ≡ true }
-    ensures { Measures text.now tree.now n levels size (show_each (last_of text.now tree.now n k).children) (depths (last_of text.now tree.now n k).children) (last_of text.now tree.now n k).rest result }
+    ensures { Measures text.now tree.now n levels size (show_each (last_of text.now tree.now n k).children) (depths (last_of text.now tree.now n k).children) (last_of text.now tree.now n k).rest (measured result) }
 {
     let mut left = n;
     let mut total = size;
-    let mut children = k;
-    while children != 0 {
-        let m = measure_node(text, tree, left - 1, levels, total);
-        if m.deep {
-            return m;
-        }
+    for _children in (0..k).rev() {
+        let m = measure_node(text, tree, left - 1, levels, total)?;
         left = m.left;
         total = plus(m.size, 1);
-        children -= 1;
     }
-    Measured {
-        deep: false,
-        left,
-        size: total,
-    }
+    Ok(Measure { left, size: total })
 }

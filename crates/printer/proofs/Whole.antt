@@ -14,9 +14,8 @@ use Rattle.numbers.proofs.Laws.{answer, deliver_none, deliver_all}
 use Rattle.parse.specs.Parse.{record_words}
 use Rattle.print.specs.Print.{Tree, leaf, depth, show, Standing, nothing, standing, not_one_tree, too_deep, most_nodes, greatest_number, told, print_tree, print_one, print}
 use Rattle.print.proofs.Records.{left_over}
-use Rattle.measure.specs.declared.Measured.{Measured}
 use Rattle.printwalk.specs.declared.Cursor.{Cursor}
-use Rattle.measure.specs.Steps.{Sound, tree_at, trees_before, height_of, Measures}
+use Rattle.measure.specs.Steps.{Sound, tree_at, trees_before, height_of, Measured, Measures}
 use Rattle.printwalk.specs.Steps.{Room, Prints}
 use Rattle.measure.proofs.Heights.{height_some, height_sound}
 use Rattle.measure.proofs.Trees.{at_end}
@@ -40,15 +39,17 @@ just_one [] room e = absurd (omega (arith, e))
 just_one (t ∷ []) room e = refl
 just_one (t ∷ u ∷ others) room e = absurd (omega (arith, e))
 
-module _ (text tree : List ℕ) {h : ℕ} (e : h ≡ height_of (standing text tree nothing)) where
-  pub not_one : (buffer : List ℕ) → (h ≡ 1 → ⊥) → Gives (print text tree (length buffer)) buffer buffer (answer not_one_tree 0)
+module _ (text tree buffer : List ℕ) where
+  pub unsound : (standing text tree nothing).sound ≡ false → Gives (print text tree (length buffer)) buffer buffer (answer not_one_tree 0)
   unfolding print
-  not_one buffer n = refused buffer (go (standing text tree nothing).sound refl)
-    where
-      go : (x : Bool) → (standing text tree nothing).sound ≡ x → print text tree (length buffer) ≡ refuse not_one_tree 0
-      go false f = simp (print, f)
-      go true f = simp (print, f) (none_one _ (length buffer) (λ z. n (e ∙ height_sound _ f ∙ z)))
+  unsound f = refused buffer (simp (print, f))
 
+  pub not_one : {h : ℕ} → ((standing text tree nothing).sound ≡ true) × (h ≡ height_of (standing text tree nothing)) → (h ≡ 1 → ⊥)
+      → Gives (print text tree (length buffer)) buffer buffer (answer not_one_tree 0)
+  unfolding print
+  not_one p n = refused buffer (simp (print, p.0) (none_one _ (length buffer) (λ z. n (p.1 ∙ height_sound _ p.0 ∙ z))))
+
+module _ (text tree : List ℕ) {h : ℕ} (e : h ≡ height_of (standing text tree nothing)) where
   module _ (one : h ≡ 1) where
     abbrev last : ℕ
     last = length tree / record_words - 1

@@ -19,20 +19,19 @@ pub fn print(text: &[u8], tree: &[u16], buffer: &mut [u8]) -> Answer
     ensures value { result ≡ (print text.now tree.now (length buffer.old)).answer }
     ensures buffer_after { buffer.new ≡ buffer_after buffer.old (print text.now tree.now (length buffer.old)) }
 {
-    if measure::height(tree) != 1 {
+    let Some(1) = measure::height(tree) else {
         return Answer {
             code: NOT_ONE_TREE,
             number: 0,
         };
-    }
+    };
     let last = tree.len() / measure::RECORD_WORDS - 1;
-    let m = measure::measure_node(text, tree, last, MOST_NODES, 0);
-    if m.deep {
+    let Ok(m) = measure::measure_node(text, tree, last, MOST_NODES, 0) else {
         return Answer {
             code: TOO_DEEP,
             number: 0,
         };
-    }
+    };
     let size = m.size;
     if buffer.len() < size {
         return Answer {

@@ -77,7 +77,7 @@ module _ (bytes out₀ : List ℕ) (to : ℕ) (room : Room (escaped bytes) out�
   pub bytes_start : Wrote (escaped (drop (length bytes) bytes)) out₀ to out₀ to
   bytes_start = wrote_as _ (escaped_end bytes (length bytes) refl) (wrote_none out₀ to)
 
-  module _ (i : ℕ) (n : i ≡ 0 → ⊥) (l : i ≤ length bytes) {out : List ℕ} {at : ℕ} (w : Wrote (escaped (drop i bytes)) out₀ to out at) where
+  module _ (i : ℕ) (n : 0 < i) (l : i ≤ length bytes) {out : List ℕ} {at : ℕ} (w : Wrote (escaped (drop i bytes)) out₀ to out at) where
     cut : escaped (drop (i - 1) bytes) ≡ escaped_byte (get_or bytes (i - 1) 0) ++ escaped (drop i bytes)
     cut = let z : i - 1 + 1 ≡ i = omega arith in rw z at (escaped_at bytes (i - 1) (omega arith))
 

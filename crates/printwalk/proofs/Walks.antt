@@ -154,7 +154,7 @@ module _ (text tree : List ℕ) (n k : ℕ) {out₀ : List ℕ} {to : ℕ} where
   pub printing_start : Sound text tree n → Printing text tree n k out₀ to out₀ n to k
   printing_start s = record { walked = none; going = going_start s; wrote = rw each_none (wrote_none out₀ to); same_length = refl }
 
-  pub printing_end : {out : List ℕ} {left at asked : ℕ} → asked ≡ 0 → Printing text tree n k out₀ to out left at asked
+  pub printing_end : {out : List ℕ} {left at asked : ℕ} → asked ≤ 0 → Printing text tree n k out₀ to out left at asked
       → Prints text tree n (show_each (last_of text tree n k).children) (last_of text tree n k).rest out₀ to out (record { left = left; at = at })
   printing_end e p = record {
     wrote = wrote_as _ (ap (λ (x : Taken). show_each x.children) (going_end p.going e)) p.wrote;
@@ -162,7 +162,7 @@ module _ (text tree : List ℕ) (n k : ℕ) {out₀ : List ℕ} {to : ℕ} where
   }
 
   module _ (enough : (last_of text tree n k).enough ≡ true) (room : Room (show_each (last_of text tree n k).children) out₀ to)
-      {out : List ℕ} {left at asked : ℕ} (p : Printing text tree n k out₀ to out left at asked) (m : asked ≡ 0 → ⊥) where
+      {out : List ℕ} {left at asked : ℕ} (p : Printing text tree n k out₀ to out left at asked) (m : 0 < asked) where
     pub child_left : 1 ≤ left
     child_left = let z = left_some p.going enough m in omega arith
 

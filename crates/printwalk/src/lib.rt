@@ -57,13 +57,11 @@ fn print_children(
 {
     let mut left = n;
     let mut at = to;
-    let mut children = k;
-    while children != 0 {
+    for _children in (0..k).rev() {
         let c = print_node(text, tree, left - 1, out, at);
         let begin = c.at;
         at = put(out, begin, b' ');
         left = c.left;
-        children -= 1;
     }
     Cursor { left, at }
 }

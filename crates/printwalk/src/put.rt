@@ -56,9 +56,7 @@ fn put_bytes(out: &mut [u8], to: usize, bytes: &[u8]) -> usize
     ensures { Wrote (escaped bytes.now) out.old to out.new result }
 {
     let mut at = to;
-    let mut i = bytes.len();
-    while i != 0 {
-        i -= 1;
+    for i in (0..bytes.len()).rev() {
         at = put_escaped(out, at, bytes[i]);
     }
     at

@@ -1,4 +1,6 @@
+use mathlib.Core.Path.{refl}
 use native.Mathlib.Omega.{arith}
+use Rattle.std.proofs.lemmas.Result.{err_from_is_err_and}
 use Rattle.measure.proofs.Trees.{sound_less, node_enough}
 use Rattle.measure.proofs.Measures.{measure_leaf, measure_over, measure_done, measuring_start, measuring_end, kid_left, kid_fewer, kid_sound, measuring_deep, measuring_on}
 use Rattle.measure.proofs.+measure_children_measure_node.Goals as goal
@@ -9,21 +11,22 @@ measure_children-loop-children-init t c = measuring_start _ _ _ _ _ _ c.requires
 pub measure_children-overflow_sub-left : goal.measure_children-overflow_sub-left
 measure_children-overflow_sub-left t c = kid_left _ _ _ _ _ _ c.requires.enough_trees c.loop-children.invariant c.loop-children-test.true
 
-pub measure_children-measure_node-m-requires : goal.measure_children-measure_node-m-requires
-measure_children-measure_node-m-requires t c =
+pub measure_children-measure_node-requires : goal.measure_children-measure_node-requires
+measure_children-measure_node-requires t c =
     let v = c.loop-children.invariant in
     let m = c.loop-children-test.true in (
       rw (← c.decreases) (omega (arith, kid_left _ _ _ _ _ _ c.requires.enough_trees v m, kid_fewer _ _ _ _ _ _ c.requires.enough_trees v m)),
       kid_sound _ _ _ _ _ _ c.requires.enough_trees v m,
     )
 
-pub measure_children-returns-then-m : goal.measure_children-returns-then-m
-measure_children-returns-then-m t c =
-    measuring_deep _ _ _ _ _ _ c.requires.enough_trees c.loop-children.invariant c.loop-children-test.true c.measure_node-m.ensures c.if-m.true
+pub measure_children-returns-in_err-m : goal.measure_children-returns-in_err-m
+measure_children-returns-in_err-m t c =
+    let p = err_from_is_err_and c.from_residual.result c.from_residual.ensures.1 in
+    rw p.1 (measuring_deep _ _ _ _ _ _ c.requires.enough_trees c.loop-children.invariant c.loop-children-test.true c.in_err-m.ensures refl)
 
 pub measure_children-loop-children-preserved : goal.measure_children-loop-children-preserved
 measure_children-loop-children-preserved t c =
-    measuring_on _ _ _ _ _ _ c.requires.enough_trees c.loop-children.invariant c.loop-children-test.true c.measure_node-m.ensures c.if-m.false c.plus-total.ensures
+    measuring_on _ _ _ _ _ _ c.requires.enough_trees c.loop-children.invariant c.loop-children-test.true c.in_ok-m.ensures refl c.plus-total.ensures
 
 pub measure_children-returns : goal.measure_children-returns
 measure_children-returns t c = measuring_end _ _ _ _ _ _ c.loop-children-test.false c.loop-children.invariant

@@ -9,7 +9,4 @@ abbrev pub decreases-measure_node : goal.decreases-measure_node
 decreases-measure_node l = l.n * 2 + 1
 
 abbrev pub invariant-measure_children-loop-children : goal.invariant-measure_children-loop-children
-invariant-measure_children-loop-children l = Measuring l.text l.tree l.n l.k l.levels l.size l.left l.total l.children
-
-abbrev pub decreases-measure_children-loop-children : goal.decreases-measure_children-loop-children
-decreases-measure_children-loop-children l = l.children
+invariant-measure_children-loop-children l = Measuring l.text l.tree l.n l.k l.levels l.size l.left l.total l._children

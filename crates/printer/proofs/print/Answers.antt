@@ -1,32 +1,41 @@
+use mathlib.Core.Path.{refl}
 use native.Mathlib.Omega.{arith}
-use Rattle.printer.proofs.Whole.{not_one, some_record, last_sound, too_deep_lem, too_small, print_room, printed}
+use Rattle.printer.proofs.Whole.{unsound, not_one, some_record, last_sound, too_deep_lem, too_small, print_room, printed}
 use Rattle.printer.proofs.print.Goals as goal
 
-pub returns-then-height-ne1 : goal.returns-then-height-ne1
-returns-then-height-ne1 c = record { value = (not_one _ _ (c.height.ensures _) _ c.if-height-ne1.true).0; buffer_after = (not_one _ _ (c.height.ensures _) _ c.if-height-ne1.true).1 }
+pub returns-in_default : goal.returns-in_default
+returns-in_default c =
+    let g = not_one c.args.text.now c.args.tree.now c.args.buffer.now (c.in_default.ensures c.args.text.now) c.in_default.field-0-test.1 in
+    record { value = g.0; buffer_after = g.1 }
+
+pub returns-in_default-2 : goal.returns-in_default-2
+returns-in_default-2 c =
+    let g = unsound c.args.text.now c.args.tree.now c.args.buffer.now (rw c.in_default.is at (c.height.ensures c.args.text.now)) in
+    record { value = g.0; buffer_after = g.1 }
 
 pub overflow_sub-last : goal.overflow_sub-last
-overflow_sub-last c = some_record c.args.text.now _ (c.height.ensures _) c.if-height-ne1.false
+overflow_sub-last c = some_record c.args.text.now _ (c.in-Some-eq1.ensures c.args.text.now).1 c.in-Some-eq1.field-0-test
 
-pub measure_node-m-requires : goal.measure_node-m-requires
-measure_node-m-requires c = last_sound _ _ (c.height.ensures _) c.if-height-ne1.false
+pub measure_node-requires : goal.measure_node-requires
+measure_node-requires c = last_sound _ _ (c.in-Some-eq1.ensures c.args.text.now).1 c.in-Some-eq1.field-0-test
 
-pub returns-then-m : goal.returns-then-m
-returns-then-m c = record { value = (too_deep_lem _ _ (c.height.ensures _) c.if-height-ne1.false c.measure_node-m.ensures _ c.if-m.true).0; buffer_after = (too_deep_lem _ _ (c.height.ensures _) c.if-height-ne1.false c.measure_node-m.ensures _ c.if-m.true).1 }
+pub returns-in_default-measure_node : goal.returns-in_default-measure_node
+returns-in_default-measure_node c =
+    let g = too_deep_lem _ _ (c.in-Some-eq1.ensures c.args.text.now).1 c.in-Some-eq1.field-0-test c.in_default-measure_node.ensures c.args.buffer.now refl in
+    record { value = g.0; buffer_after = g.1 }
 
 pub returns-then-buffer-size : goal.returns-then-buffer-size
 returns-then-buffer-size c =
-    record { value = (too_small _ _ (c.height.ensures _) c.if-height-ne1.false c.measure_node-m.ensures c.if-m.false _ c.if-buffer-size.true).0; buffer_after = (too_small _ _ (c.height.ensures _) c.if-height-ne1.false c.measure_node-m.ensures c.if-m.false _ c.if-buffer-size.true).1 }
+    let g = too_small _ _ (c.in-Some-eq1.ensures c.args.text.now).1 c.in-Some-eq1.field-0-test c.in-Ok.ensures refl c.args.buffer.now c.if-buffer-size.true in
+    record { value = g.0; buffer_after = g.1 }
 
 pub print_node-requires : goal.print_node-requires
 print_node-requires c =
-    let e = c.height.ensures c.args.text.now in record { sound = last_sound _ _ e c.if-height-ne1.false; room = print_room _ _ e c.if-height-ne1.false c.measure_node-m.ensures c.if-m.false _ (omega (arith, c.well_formed)) c.if-buffer-size.false }
+    let e = (c.in-Some-eq1.ensures c.args.text.now).1 in
+    let one = c.in-Some-eq1.field-0-test in
+    record { sound = last_sound _ _ e one; room = print_room _ _ e one c.in-Ok.ensures refl c.args.buffer.now (omega (arith, c.well_formed)) c.if-buffer-size.false }
 
 pub returns : goal.returns
 returns c =
-    record {
-      value = (printed _ _ (c.height.ensures _) c.if-height-ne1.false c.measure_node-m.ensures c.if-m.false _ (omega (arith, c.well_formed))
-          c.if-buffer-size.false c.print_node.ensures).0;
-      buffer_after = (printed _ _ (c.height.ensures _) c.if-height-ne1.false c.measure_node-m.ensures c.if-m.false _ (omega (arith, c.well_formed))
-          c.if-buffer-size.false c.print_node.ensures).1;
-    }
+    let g = printed _ _ (c.in-Some-eq1.ensures c.args.text.now).1 c.in-Some-eq1.field-0-test c.in-Ok.ensures refl c.args.buffer.now (omega (arith, c.well_formed)) c.if-buffer-size.false c.print_node.ensures in
+    record { value = g.0; buffer_after = g.1 }

@@ -9,7 +9,4 @@ abbrev pub decreases-print_node : goal.decreases-print_node
 decreases-print_node l = l.n * 2 + 1
 
 abbrev pub invariant-print_children-loop-children : goal.invariant-print_children-loop-children
-invariant-print_children-loop-children l = Printing l.text l.tree l.n l.k l.initial.out l.to l.out l.left l.at l.children
-
-abbrev pub decreases-print_children-loop-children : goal.decreases-print_children-loop-children
-decreases-print_children-loop-children l = l.children
+invariant-print_children-loop-children l = Printing l.text l.tree l.n l.k l.initial.out l.to l.out l.left l.at l._children
