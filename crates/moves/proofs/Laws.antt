@@ -25,6 +25,7 @@ use Rattle.text.specs.Reform.{reform}
 use Rattle.text.specs.Writer.{write_good}
 use Rattle.text.proofs.Lines.{expect_name, expect_told}
 use Rattle.text.proofs.RoundTrip.{accepted}
+use Rattle.moves.specs.Forms.{other}
 
 -- ---- the first line
 -- What is expected stands there or not, whatever was read before.
@@ -42,8 +43,8 @@ wrong_first : (form : Form) (text : List ℕ) → expect (pack_line form) (1 ∷
 unfolding read_in read_head then_lines as_line
 wrong_first form text e = rw e
 
--- A text of the other form.
-pub other_two : (text : List ℕ) → form_of text ≡ Two → read_in One text ≡ wrong_from text
+-- A text of the form that it is to be moved to.
+other_two : (text : List ℕ) → form_of text ≡ Two → read_in One text ≡ wrong_from text
 unfolding form_of expect pack_line
 other_two text e = go (expect (pack_line Two) [] text) refl
   where
@@ -51,13 +52,17 @@ other_two text e = go (expect (pack_line Two) [] text) refl
     go wrong f = let z : One ≡ Two = sym (simp (form_of, f)) ∙ e in let y : ◌≡◌ {A = ℕ} 0 1 = cc in absurd (omega arith)
     go (took w rest) f = rw (← (expect_told (pack_line Two) [] text w rest f).1) (wrong_first One (pack_line Two ++ rest) refl)
 
-pub other_one : (text : List ℕ) → form_of text ≡ One → read_in Two text ≡ wrong_from text
+other_one : (text : List ℕ) → form_of text ≡ One → read_in Two text ≡ wrong_from text
 unfolding form_of
 other_one text e = go (expect (pack_line Two) [] text) refl
   where
     go : (x : Line) → expect (pack_line Two) [] text ≡ x → read_in Two text ≡ wrong_from text
     go wrong f = wrong_first Two text (expect_wrong (pack_line Two) [] (1 ∷ []) text f)
     go (took w rest) f = let z : Two ≡ One = sym (simp (form_of, f)) ∙ e in let y : ◌≡◌ {A = ℕ} 0 1 = cc in absurd (omega arith)
+
+pub same_form : (to : Form) (text : List ℕ) → form_of text ≡ to → read_in (other to) text ≡ wrong_from text
+same_form One text e = other_one text e
+same_form Two text e = other_two text e
 
 -- ---- the source
 fits : (w : List ℕ) → shape w ≡ Good → length w ≤ largest_image

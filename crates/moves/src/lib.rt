@@ -9,6 +9,7 @@ ghost use Rattle.text.specs.declared.Form.TheVariants.{One, Two};
 ghost use Rattle.text.specs.Reader.{read_all, judge};
 ghost use Rattle.text.specs.Reform.{reform};
 ghost use Rattle.text.specs.Writer.{write_good};
+ghost use Rattle.moves.specs.Forms.{other};
 
 use numbers::Answer;
 use text::Form;
@@ -35,11 +36,10 @@ fn rewrite(text: &[u8], buffer: &mut [u8], to: Form) -> Answer
     rewrite_by(text, &mut img, buffer, to)
 }
 
-// Moves a pack text from form 1 to form 2. Codes 2, 1 and 4 for the text that is given, and then 2 and 3 for the one that is asked for, leave
-// the buffer untouched; done puts its bytes at the front.
-pub fn to_form2(text: &[u8], buffer: &mut [u8]) -> Answer
-    ensures value { result ≡ (reform One Two text.now buffer.old).answer }
-    ensures buffer_after { buffer.new ≡ buffer_after buffer.old (reform One Two text.now buffer.old) }
+// A pack text moved to this form from the other one, which is the one that its first line has to tell.
+fn moved(text: &[u8], buffer: &mut [u8], to: Form) -> Answer
+    ensures value { result ≡ (reform (other to) to text.now buffer.old).answer }
+    ensures buffer_after { buffer.new ≡ buffer_after buffer.old (reform (other to) to text.now buffer.old) }
 {
     if numbers::LONGEST_TEXT < text.len() {
         return Answer {
@@ -48,13 +48,23 @@ pub fn to_form2(text: &[u8], buffer: &mut [u8]) -> Answer
         };
     }
     let form = firstline::form_of(text);
-    match form {
-        Form::One => rewrite(text, buffer, Form::Two),
-        Form::Two => Answer {
+    match (form, to) {
+        (Form::One, Form::Two) => rewrite(text, buffer, Form::Two),
+        (Form::Two, Form::One) => rewrite(text, buffer, Form::One),
+        _ => Answer {
             code: numbers::NOT_THE_FORM,
             number: 0,
         },
     }
+}
+
+// Moves a pack text from form 1 to form 2. Codes 2, 1 and 4 for the text that is given, and then 2 and 3 for the one that is asked for, leave
+// the buffer untouched; done puts its bytes at the front.
+pub fn to_form2(text: &[u8], buffer: &mut [u8]) -> Answer
+    ensures value { result ≡ (reform One Two text.now buffer.old).answer }
+    ensures buffer_after { buffer.new ≡ buffer_after buffer.old (reform One Two text.now buffer.old) }
+{
+    moved(text, buffer, Form::Two)
 }
 
 // Moves a pack text from form 2 to form 1, in the same way.
@@ -62,18 +72,5 @@ pub fn to_form1(text: &[u8], buffer: &mut [u8]) -> Answer
     ensures value { result ≡ (reform Two One text.now buffer.old).answer }
     ensures buffer_after { buffer.new ≡ buffer_after buffer.old (reform Two One text.now buffer.old) }
 {
-    if numbers::LONGEST_TEXT < text.len() {
-        return Answer {
-            code: numbers::TEXT_TOO_LONG,
-            number: 0,
-        };
-    }
-    let form = firstline::form_of(text);
-    match form {
-        Form::One => Answer {
-            code: numbers::NOT_THE_FORM,
-            number: 0,
-        },
-        Form::Two => rewrite(text, buffer, Form::One),
-    }
+    moved(text, buffer, Form::One)
 }
