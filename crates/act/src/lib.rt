@@ -9,8 +9,9 @@ ghost use Rattle.shape.specs.Shape.{shape};
 ghost use Rattle.records.specs.Inner.{Stacked, Kept, standing, bounded, told};
 ghost use Rattle.records.specs.Parse.{shift_to, reduce_by, perform};
 
+use look::{ParseError, Token};
 use pack::{Action, image};
-use records::{ParseError, Parser, Token, Turned, narrow};
+use records::{Parser, Turned, narrow};
 
 // Shift: write a leaf, push.
 fn shift(

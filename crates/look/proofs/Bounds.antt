@@ -11,9 +11,7 @@ use Rattle.pack.specs.Image.{all_but_end_and_layout}
 use Rattle.scan.specs.Token.{terminal_of}
 use Rattle.scan.proofs.Theory.{scan_stops}
 use Rattle.look.specs.declared.Spot.{Spot}
-use Rattle.look.specs.declared.Sought.{Sought}
-use Rattle.look.specs.declared.Looked.{Looked}
-use Rattle.look.specs.Look.{refused, seek, rescan, choose, sought_set, piece, is_layout, look_on, look}
+use Rattle.look.specs.Look.{Sought, Looked, refused, seek, rescan, choose, sought_set, piece, is_layout, look_on, look}
 use Rattle.look.specs.Inner.{Within}
 use Rattle.look.proofs.Laws.{choose_none, choose_some, rescan_spent, rescan_none, rescan_some, piece_spent, piece_none, piece_some}
 
@@ -56,8 +54,8 @@ module _ (img text : List ℕ) (allowance : ℕ) where
   choose_in f s = go (terminal_of img f.set) refl
     where
       go : (t : ℕ) → terminal_of img f.set ≡ t → Bounds (choose img f.set f.length f.at)
-      go zero e = rw (← choose_none img f.set f.length f.at (sym e) refl) (found_there f s)
-      go (suc t) e = rw (← choose_some img f.set f.length f.at (sym e) (λ z. omega arith)) (found_there f s)
+      go zero e = rw (← choose_none img f.set f.length f.at (sym e)) (found_there f s)
+      go (suc t) e = rw (← choose_some img f.set f.length t f.at (sym e)) (found_there f s)
 
   piece_in : (s : ℕ) (at : Spot) → Within text allowance at → Bounds (piece img text allowance s at)
   piece_in s at w = go (seek_in (sought_set img s) at w) (seek img text allowance (sought_set img s) at).spent refl (eqb (seek img text allowance (sought_set img s) at).set 0) refl

@@ -18,15 +18,21 @@ use Rattle.shape.specs.Shape.{shape}
 use Rattle.pack.proofs.Valid.{valid_lt}
 use Rattle.shape.proofs.Good.{good_layout}
 use Rattle.conditions.proofs.TestLaws.{and_left}
-use Rattle.scan.specs.declared.Stop.{Stop}
-use Rattle.scan.specs.Scan.{scan}
+use Rattle.std.specs.Prelude.{Option, Some, None, Result, Ok, Err}
+use Rattle.scan.specs.declared.Matched.{Matched}
+use Rattle.scan.specs.declared.UsedUp.{UsedUp}
+use Rattle.scan.specs.declared.Found.{Found}
+use Rattle.scan.specs.Scan.{Stop, scan}
+use Rattle.scan.specs.Found.{stop_of}
 use Rattle.conditions.specs.Conditions.{Subset}
 use Rattle.scan.specs.Token.{terminal_of}
 use Rattle.scan.proofs.Theory.{scan_stops}
 use Rattle.look.specs.declared.Spot.{Spot}
-use Rattle.look.specs.declared.Sought.{Sought}
-use Rattle.look.specs.declared.Looked.{Looked}
-use Rattle.look.specs.Look.{seek, scanned, past, refused, found, sought_set, rescan, choose, piece, is_layout, look_on, look}
+use Rattle.look.specs.Look.{Sought, Looked, seek, scanned, past, refused, found, sought_set, rescan, choose, piece, is_layout, look_on, look}
+use Rattle.look.specs.declared.ParseError.{ParseError}
+use Rattle.look.specs.declared.ParseError.TheVariants.{NoTerminal, Unexpected, NoGroup, Stuck, TreeFull, StackFull, AllowanceUsedUp}
+use Rattle.look.specs.Errors.{error_code}
+use Rattle.look.specs.Next.{sought_of}
 use Rattle.token.specs.Terms.{Terms}
 use Rattle.look.specs.Inner.{Known, Within, SoughtWithin, LookedWithin}
 
@@ -53,21 +59,42 @@ terms_of img x v l p = record { each = λ t e. go t (leb (terminals img) t) refl
     go t false y e = leb-false _ _ y
 
 -- One scan from a spot.
-module _ (img text : List ℕ) (allowance v : ℕ) (at : Spot) {stop : Stop} {rest : List ℕ} (er : rest ≡ drop at.place text)
-    (es : stop ≡ scan img v (allowance - at.moves) rest) where
-  pub seek_same : record { spent = stop.spent; set = stop.set; length = stop.length; at = scanned stop.moves at } ≡ seek img text allowance v at
+sought_stop : (r : Result (Option Matched) UsedUp) (n : ℕ) (at : Spot)
+    → sought_of r (scanned n at)
+    ≡ record {
+      spent = (stop_of (record { matched = r; moves = n })).spent;
+      set = (stop_of (record { matched = r; moves = n })).set;
+      length = (stop_of (record { matched = r; moves = n })).length;
+      at = scanned (stop_of (record { matched = r; moves = n })).moves at;
+    }
+sought_stop (Ok kept) n at = refl
+sought_stop (Err e) n at = refl
+
+stop_moves : (r : Result (Option Matched) UsedUp) (n : ℕ) → (stop_of (record { matched = r; moves = n })).moves ≡ n
+stop_moves (Ok kept) n = refl
+stop_moves (Err e) n = refl
+
+module _ (img text : List ℕ) (allowance v : ℕ) (at : Spot) (f : Found) {rest : List ℕ} (er : rest ≡ drop at.place text)
+    (es : stop_of f ≡ scan img v (allowance - at.moves) rest) where
+  pub seek_same : sought_of f.matched (scanned f.moves at) ≡ seek img text allowance v at
   unfolding seek
-  seek_same = simp (seek, ← er, ← es)
+  seek_same = sought_stop f.matched f.moves at ∙ simp (seek, ← er, ← es)
 
-  pub seek_moves : Within text allowance at → at.moves + stop.moves ≤ allowance
-  seek_moves w = rw es (omega (arith, w.moves, (scan_stops img v (allowance - at.moves) rest).moves_allowed))
+  pub seek_moves : Within text allowance at → at.moves + f.moves ≤ allowance
+  seek_moves w =
+      omega (
+        arith,
+        w.moves,
+        (scan_stops img v (allowance - at.moves) rest).moves_allowed,
+        ap (λ (s : Stop). s.moves) es,
+        stop_moves f.matched f.moves,
+      )
 
-  pub seek_within : Within text allowance at → v < 2 ^ terminals img
-      → SoughtWithin img text allowance (record { spent = stop.spent; set = stop.set; length = stop.length; at = scanned stop.moves at })
+  pub seek_within : Within text allowance at → v < 2 ^ terminals img → SoughtWithin img text allowance (sought_of f.matched (scanned f.moves at))
   seek_within w l =
       let q = scan_stops img v (allowance - at.moves) rest in
       let n : length rest ≡ length text - at.place = ap length er ∙ length-drop at.place text in
-      rw es
+      rw (sought_stop f.matched f.moves at, es)
       (record {
         place = omega (arith, w.place, q.within, n);
         moves = omega (arith, w.moves, q.moves_allowed);
@@ -75,14 +102,14 @@ module _ (img text : List ℕ) (allowance v : ℕ) (at : Spot) {stop : Stop} {re
         terms = terms_of img _ v l q.part;
       })
 
-module _ (img : List ℕ) (set size : ℕ) (at : Spot) {t : ℕ} (e : t ≡ terminal_of img set) where
-  pub choose_none : t ≡ 0 → refused 9 size 0 at ≡ choose img set size at
-  unfolding choose
-  choose_none z = simp (choose, sym e ∙ z)
+-- The token of a match, or none.
+pub choose_none : (img : List ℕ) (set size : ℕ) (at : Spot) → 0 ≡ terminal_of img set → refused 9 size 0 at ≡ choose img set size at
+unfolding choose
+choose_none img set size at e = simp (choose, ← e)
 
-  pub choose_some : (t ≡ 0 → ⊥) → refused 0 size (t - 1) at ≡ choose img set size at
-  unfolding choose
-  choose_some n = let z : t ≡ suc (t - 1) = omega arith in simp (choose, sym e ∙ z)
+pub choose_some : (img : List ℕ) (set size t : ℕ) (at : Spot) → suc t ≡ terminal_of img set → found size t at ≡ choose img set size at
+unfolding choose
+choose_some img set size t at e = simp (choose, ← e)
 
 -- What was found lies within the text and the allowance.
 module _ (img text : List ℕ) (allowance : ℕ) (f : Sought) (w : SoughtWithin img text allowance f) where
@@ -141,6 +168,16 @@ module _ (img text : List ℕ) (allowance s : ℕ) (at : Spot) {v : ℕ} {f : So
   unfolding piece is_empty
   piece_some t n = simp (piece, is_empty, ← looked_for, t, ne_eqb _ _ n)
 
+-- No error has the code of a token.
+pub error_some : (e : ParseError) → error_code e ≡ 0 → ⊥
+error_some NoTerminal z = omega arith
+error_some (Unexpected size terminal) z = omega arith
+error_some (NoGroup size) z = omega arith
+error_some Stuck z = omega arith
+error_some TreeFull z = omega arith
+error_some StackFull z = omega arith
+error_some AllowanceUsedUp z = omega arith
+
 -- A layout terminal, or not.
 module _ (img : List ℕ) (l : Looked) where
   pub layout_found : {v : ℕ} {b : Bool} → l.code ≡ 0 → v ≡ layout img → b ≡ member v l.terminal → b ≡ is_layout img l
@@ -178,8 +215,8 @@ module _ (img text : List ℕ) (allowance : ℕ) where
   choose_size set size at = go (terminal_of img set) refl
     where
       go : (t : ℕ) → terminal_of img set ≡ t → (choose img set size at).at.place + (choose img set size at).length ≡ at.place + size
-      go zero e = rw (← choose_none img set size at (sym e) refl) refl
-      go (suc t) e = rw (← choose_some img set size at (sym e) (λ z. omega arith)) refl
+      go zero e = rw (← choose_none img set size at (sym e)) refl
+      go (suc t) e = rw (← choose_some img set size t at (sym e)) refl
 
   pub layout_size : (s : ℕ) (at : Spot) → is_layout img (piece img text allowance s at) ≡ true
       → at.place < (piece img text allowance s at).at.place + (piece img text allowance s at).length

@@ -3,9 +3,7 @@ use Rattle.std.specs.Prelude.{◌≡◌, List, ℕ, ◌+◌, ◌<◌, ◌≤◌,
 use Rattle.pack.specs.Image.{terminals}
 use Rattle.token.specs.Terms.{Terms}
 use Rattle.look.specs.declared.Spot.{Spot}
-use Rattle.look.specs.declared.Sought.{Sought}
-use Rattle.look.specs.declared.Looked.{Looked}
-use Rattle.look.specs.Look.{sought_set}
+use Rattle.look.specs.Look.{Sought, Looked, sought_set}
 
 -- Each set in the row is that of its state, or 0 for not yet found.
 pub record Known (img known : List ℕ) : Type 0 where

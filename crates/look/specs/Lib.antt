@@ -1,2 +1,4 @@
+pub mod Errors
 pub mod Inner
 pub mod Look
+pub mod Next

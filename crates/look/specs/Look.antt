@@ -8,8 +8,20 @@ use Rattle.conditions.specs.Conditions.{sought}
 use Rattle.scan.specs.Scan.{scan}
 use Rattle.scan.specs.Token.{terminal_of}
 use Rattle.look.specs.declared.Spot.{Spot}
-use Rattle.look.specs.declared.Sought.{Sought}
-use Rattle.look.specs.declared.Looked.{Looked}
+
+-- What one scan found, and where the parse then stands.
+pub record Sought : Type 0 where
+  pub spent : Bool
+  pub set : ℕ
+  pub length : ℕ
+  pub at : Spot
+
+-- What is found where the parse stands: code 0 and a token, or one of the codes 7, 8, 9 and 13.
+pub record Looked : Type 0 where
+  pub code : ℕ
+  pub length : ℕ
+  pub terminal : ℕ
+  pub at : Spot
 
 -- Where the parse stands in the text is a spot: the place and the moves made.
 -- After the moves of a scan; past so many bytes.

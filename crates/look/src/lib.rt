@@ -1,107 +1,112 @@
 // Layout is skipped and the next token is found: all that the parse knows of the scan. Inner functions: their callers have tested the shape.
 #![tactic(auto)]
 
-ghost use Rattle.std.specs.Prelude.{◌≡◌, ℕ, ◌^◌, ◌<◌};
+ghost use Rattle.std.specs.Prelude.{◌≡◌, ℕ, ◌^◌, ◌<◌, IfOk, IfSome, Err};
 ghost use Rattle.numbers.specs.Verdicts.{Good};
 ghost use Rattle.pack.specs.Image.{terminals, states};
 ghost use Rattle.pack.specs.Laid.{Laid};
 ghost use Rattle.shape.specs.Shape.{shape};
 ghost use Rattle.classes.specs.Ready.{Ready};
 ghost use Rattle.token.specs.Terms.{Terms};
+ghost use Rattle.look.specs.declared.Spot.{Spot};
 ghost use Rattle.look.specs.Inner.{Known, Within, SoughtWithin, LookedWithin};
-ghost use Rattle.look.specs.Look.{refused, seek, rescan, choose, sought_set, piece, is_layout, look};
+ghost use Rattle.look.specs.Look.{seek, rescan, choose, sought_set, piece, look};
+ghost use Rattle.look.specs.Next.{sought_of, looked_at, looked_of};
 
 use pack::image;
+use scan::{Matched, UsedUp};
 use token::{least, terminal_of};
 
+// Why a parse ends without a tree: the codes 7 to 13 of the manual, with the numbers that go with them.
+#[derive(Clone, Copy, Debug, PartialEq, Eq)]
+pub enum ParseError {
+    NoTerminal,
+    Unexpected { length: usize, terminal: usize },
+    NoGroup { length: usize },
+    Stuck,
+    TreeFull,
+    StackFull,
+    AllowanceUsedUp,
+}
+
+// A token: its terminal and the bytes that it takes.
+#[derive(Clone, Copy, Debug, PartialEq, Eq)]
+pub struct Token {
+    pub terminal: usize,
+    pub length: usize,
+}
+
 // Where the parse stands in the text: the place and the moves made.
-#[derive(Clone, Copy)]
+#[derive(Clone, Copy, Debug, PartialEq, Eq)]
 pub struct Spot {
     pub place: usize,
     pub moves: usize,
 }
 
-// What one scan found, and where the parse then stands.
-#[derive(Clone, Copy)]
-pub struct Sought {
-    pub spent: bool,
-    pub set: u64,
-    pub length: usize,
+// What is found, and where the parse then stands.
+#[derive(Clone, Copy, Debug, PartialEq, Eq)]
+pub struct Next {
+    pub found: Result<Token, ParseError>,
     pub at: Spot,
 }
 
-// What is found where the parse stands: code 0 and a token, or one of the codes 7, 8, 9 and 13.
-#[derive(Clone, Copy)]
-pub struct Looked {
-    pub code: u8,
-    pub length: usize,
-    pub terminal: usize,
-    pub at: Spot,
-}
+// The end of the text, as a token.
+const END_OF_TEXT: Token = Token {
+    terminal: 0,
+    length: 0,
+};
 
-// One scan from where the parse stands, within what is left of the allowance.
-fn seek(img: &[u16], text: &[u8], allowance: usize, v: u64, at: Spot) -> Sought
+// One scan from where the parse stands, within what is left of the allowance. The parse then stands there with the moves made.
+fn seek(
+    img: &[u16],
+    text: &[u8],
+    allowance: usize,
+    v: u64,
+    at: &mut Spot,
+) -> Result<Option<Matched>, UsedUp>
     requires ready { Ready img.now }
-    requires within { Within text.now allowance at }
+    requires within { Within text.now allowance at.old }
     requires v_bound { v < 2 ^ terminals img.now }
-    ensures value { result ≡ seek img.now text.now allowance v at }
-    ensures sought_within { SoughtWithin img.now text.now allowance result }
+    ensures value { sought_of result at.new ≡ seek img.now text.now allowance v at.old }
+    ensures some { IfOk result (λ matched. IfSome matched (λ m. m.set ≡ 0 → ⊥)) }
+    ensures sought_within { SoughtWithin img.now text.now allowance (sought_of result at.new) }
 {
-    let place = at.place;
-    let stop = scan::one_scan(img, v, allowance - at.moves, &text[place..]);
-    Sought {
-        spent: stop.spent,
-        set: stop.set,
-        length: stop.length,
-        at: Spot {
-            place,
-            moves: at.moves + stop.moves,
-        },
-    }
+    let found = scan::one_scan(img, v, allowance - at.moves, &text[at.place..]);
+    at.moves += found.moves;
+    found.matched
 }
 
-fn refused(code: u8, length: usize, terminal: usize, at: Spot) -> Looked
-    ensures { result ≡ refused code length terminal at }
-{
-    Looked {
-        code,
-        length,
-        terminal,
-        at,
-    }
-}
-
-// The terminal of a match, or code 9.
-fn choose(img: &[u16], set: u64, length: usize, at: Spot) -> Looked
+// The token of a match, where its terminals are one or the set of a group.
+fn choose(img: &[u16], set: u64, length: usize) -> Result<Token, ParseError>
     requires laid { Laid img.now }
     requires good_shape { shape img.now ≡ Good }
     requires some_terms { (set ≡ 0 → ⊥) × Terms img.now set }
-    ensures value { result ≡ choose img.now set length at }
-    ensures same_spot { (result.at ≡ at) × ((result.length ≡ length) × (result.terminal < terminals img.now)) }
+    ensures value { (at : Spot) → looked_at result at ≡ choose img.now set length at }
+    ensures token { (at : Spot) → ((looked_at result at).length ≡ length) × ((looked_at result at).terminal < terminals img.now) }
 {
-    let t = terminal_of(img, set);
-    if t == 0 {
-        return refused(numbers::NO_GROUP, length, 0, at);
+    match terminal_of(img, set) {
+        Some(terminal) => Ok(Token { terminal, length }),
+        None => Err(ParseError::NoGroup { length }),
     }
-    refused(numbers::DONE, length, t - 1, at)
 }
 
-// No match: what other terminal is there, code 8, or none, code 7.
-fn rescan(img: &[u16], text: &[u8], allowance: usize, at: Spot) -> Looked
+// No match: what other terminal is there, or none.
+fn rescan(img: &[u16], text: &[u8], allowance: usize, at: &mut Spot) -> ParseError
     requires ready { Ready img.now }
-    requires within { Within text.now allowance at }
-    ensures value { result ≡ rescan img.now text.now allowance at }
-    ensures looked_within { LookedWithin img.now text.now allowance result }
+    requires within { Within text.now allowance at.old }
+    ensures value { looked_at (Err result) at.new ≡ rescan img.now text.now allowance at.old }
+    ensures looked_within { LookedWithin img.now text.now allowance (looked_at (Err result) at.new) }
 {
     let others = sets::less(scan::all_but_end(img), image::layout(img));
-    let f = seek(img, text, allowance, others, at);
-    if f.spent {
-        return refused(numbers::ALLOWANCE_USED_UP, 0, 0, f.at);
+    match seek(img, text, allowance, others, at) {
+        Ok(Some(m)) => {
+            let length = m.length;
+            let terminal = least(img, m.set);
+            ParseError::Unexpected { length, terminal }
+        }
+        Ok(None) => ParseError::NoTerminal,
+        Err(UsedUp) => ParseError::AllowanceUsedUp,
     }
-    if f.set == 0 {
-        return refused(numbers::NO_TERMINAL, 0, 0, f.at);
-    }
-    refused(numbers::UNEXPECTED, f.length, least(img, f.set), f.at)
 }
 
 // The set that is scanned for in state s: from the row of sets, where it stands, or found and put there.
@@ -122,32 +127,24 @@ fn sought_set(img: &[u16], known: &mut [u64; 128], s: usize) -> u64
 }
 
 // One scan for the set of a state, and what it comes to: layout or a token, or a refusal.
-fn piece(img: &[u16], text: &[u8], allowance: usize, v: u64, at: Spot) -> Looked
+fn piece(
+    img: &[u16],
+    text: &[u8],
+    allowance: usize,
+    v: u64,
+    at: &mut Spot,
+) -> Result<Token, ParseError>
     requires ready { Ready img.now }
-    requires within { Within text.now allowance at }
+    requires within { Within text.now allowance at.old }
     requires v_bound { v < 2 ^ terminals img.now }
-    ensures for_its_state { (s : ℕ) → v ≡ sought_set img.now s → result ≡ piece img.now text.now allowance s at }
-    ensures looked_within { LookedWithin img.now text.now allowance result }
+    ensures for_its_state { (s : ℕ) → v ≡ sought_set img.now s → looked_at result at.new ≡ piece img.now text.now allowance s at.old }
+    ensures looked_within { LookedWithin img.now text.now allowance (looked_at result at.new) }
 {
-    let f = seek(img, text, allowance, v, at);
-    if f.spent {
-        return refused(numbers::ALLOWANCE_USED_UP, 0, 0, f.at);
+    match seek(img, text, allowance, v, at) {
+        Ok(Some(m)) => choose(img, m.set, m.length),
+        Ok(None) => Err(rescan(img, text, allowance, at)),
+        Err(UsedUp) => Err(ParseError::AllowanceUsedUp),
     }
-    if f.set == 0 {
-        return rescan(img, text, allowance, f.at);
-    }
-    choose(img, f.set, f.length, f.at)
-}
-
-// Whether it is a layout terminal.
-fn is_layout(img: &[u16], l: Looked) -> bool
-    requires { Laid img.now }
-    ensures { result ≡ is_layout img.now l }
-{
-    if l.code == numbers::DONE {
-        return sets::member(image::layout(img), l.terminal);
-    }
-    false
 }
 
 // Past the layout to the token of state s, or to the end of the text, where nothing is scanned.
@@ -158,30 +155,35 @@ pub fn look(
     allowance: usize,
     s: usize,
     at: Spot,
-) -> Looked
+) -> Next
     requires ready { Ready img.now }
     requires known { Known img.now known.old }
     requires s_bound { s < states img.now }
     requires within { Within text.now allowance at }
-    ensures value { result ≡ look img.now text.now allowance s at }
-    ensures looked_within { LookedWithin img.now text.now allowance result }
+    ensures value { looked_of result ≡ look img.now text.now allowance s at }
+    ensures looked_within { LookedWithin img.now text.now allowance (looked_of result) }
     ensures known_after { Known img.now known.new }
 {
     if text.len() <= at.place {
-        return refused(numbers::DONE, 0, 0, at);
+        return Next {
+            found: Ok(END_OF_TEXT),
+            at,
+        };
     }
     let v = sought_set(img, known, s);
     let mut here = at;
     while here.place < text.len() {
-        let l = piece(img, text, allowance, v, here);
-        if is_layout(img, l) {
-            here = Spot {
-                place: l.at.place + l.length,
-                moves: l.at.moves,
-            };
-        } else {
-            return l;
+        let found = piece(img, text, allowance, v, &mut here);
+        let Ok(token) = found else {
+            return Next { found, at: here };
+        };
+        if !sets::member(image::layout(img), token.terminal) {
+            return Next { found, at: here };
         }
+        here.place += token.length;
     }
-    refused(numbers::DONE, 0, 0, here)
+    Next {
+        found: Ok(END_OF_TEXT),
+        at: here,
+    }
 }

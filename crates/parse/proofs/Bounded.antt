@@ -15,7 +15,7 @@ use Rattle.pack.specs.Image.{act, action_of, goto, lhs, len}
 use Rattle.numbers.specs.Verdicts.{Good, Wrong}
 use Rattle.shape.specs.Shape.{shape}
 use Rattle.look.specs.declared.Spot.{Spot}
-use Rattle.look.specs.declared.Looked.{Looked}
+use Rattle.look.specs.Look.{Looked}
 use Rattle.look.specs.Look.{look}
 use Rattle.look.specs.Inner.{Within}
 use Rattle.look.proofs.Bounds.{Bounds, look_in}

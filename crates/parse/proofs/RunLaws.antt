@@ -17,34 +17,25 @@ use Rattle.pack.specs.Image.{states, act, action_of}
 use Rattle.pack.specs.Laid.{Laid}
 use Rattle.shape.specs.Shape.{shape}
 use Rattle.look.specs.declared.Spot.{Spot}
-use Rattle.look.specs.declared.Looked.{Looked}
-use Rattle.look.specs.Look.{look}
-use Rattle.records.specs.declared.ParseError.{ParseError}
-use Rattle.records.specs.declared.ParseError.TheVariants.{NoTerminal, Unexpected, NoGroup, Stuck, TreeFull, StackFull, AllowanceUsedUp}
+use Rattle.look.specs.Look.{Looked, look}
+use Rattle.look.specs.declared.ParseError.{ParseError}
 use Rattle.records.specs.declared.Parsed.{Parsed}
-use Rattle.records.specs.declared.Token.{Token}
+use Rattle.look.specs.declared.Token.{Token}
 use Rattle.records.specs.declared.Turned.{Turned}
 use Rattle.records.specs.declared.Turned.TheVariants.{Accepted, Went}
 use Rattle.records.specs.declared.parser.Parser.{Parser}
 use Rattle.records.specs.Parse.{Standing, Ending, Step, ends, goes, top, moved, perform, step, run, start, room_of, before, parse, tree_after}
-use Rattle.records.specs.Inner.{KeptTurn, Turning, Turn, stops, turns, standing, bounded, told, ended, error_code, parsed_of, looked_at}
+use Rattle.records.specs.Inner.{KeptTurn, Turning, Turn, stops, turns, standing, bounded, told, ended, parsed_of}
+use Rattle.look.specs.Next.{looked_at}
+use Rattle.look.proofs.Laws.{error_some}
 use Rattle.records.proofs.ActLaws.{bounded-ends}
 
 -- One turn.
-code_some : (e : ParseError) → error_code e ≡ 0 → ⊥
-code_some NoTerminal z = absurd (omega arith)
-code_some (Unexpected size terminal) z = absurd (omega arith)
-code_some (NoGroup size) z = absurd (omega arith)
-code_some Stuck z = absurd (omega arith)
-code_some TreeFull z = absurd (omega arith)
-code_some StackFull z = absurd (omega arith)
-code_some AllowanceUsedUp z = absurd (omega arith)
-
 module _ (img : List ℕ) (looks : ℕ → Spot → Looked) (left : ℕ) (here : Standing) {l : Looked} (el : l ≡ looks (top here.stack) here.at) where
   pub turn_refused : (e : ParseError) → looked_at (Err e) l.at ≡ l → told (Err e) (moved l.at here) ≡ bounded left (step img looks here)
   unfolding told step
   turn_refused e q =
-      let n : l.code ≡ 0 → ⊥ = λ z. code_some e (ap (λ (x : Looked). x.code) q ∙ z) in
+      let n : l.code ≡ 0 → ⊥ = λ z. error_some e (ap (λ (x : Looked). x.code) q ∙ z) in
       simp (step, ← el, ne_eqb _ _ n) (rw (← q) (sym (bounded-ends left _)))
 
   pub turn_found : {t : Turn} {k : Token} → looked_at (Ok k) l.at ≡ l

@@ -3,40 +3,20 @@ ghost use Rattle.std.specs.Prelude.{◌≡◌, ◌-◌, ◌*◌, ◌/◌, ◌<�
 ghost use Rattle.numbers.specs.Verdicts.{Good};
 ghost use Rattle.pack.specs.Image.{states};
 ghost use Rattle.shape.specs.Shape.{shape};
-ghost use Rattle.records.specs.Inner.{Stacked, KeptTurn, IsLooked, standing, bounded, told, looked_at, parsed_of};
+ghost use Rattle.records.specs.Inner.{Stacked, KeptTurn, standing, bounded, told, parsed_of};
 ghost use Rattle.classes.specs.Ready.{Ready};
 ghost use Rattle.look.specs.Inner.{Known, Within};
 ghost use Rattle.look.specs.Look.{look};
 ghost use Rattle.records.specs.Parse.{step, run, start, room_of, tree_after};
 
-use look::{Looked, Spot};
-use records::{ParseError, Parsed, Parser, Stack, Token, Turned};
+use look::{ParseError, Spot};
+use records::{Parsed, Parser, Stack, Turned};
 
 // Tree room: the whole records that fit.
 fn room_of(words: usize) -> usize
     ensures { result ≡ min (words / 4) 65535 }
 {
     (words / records::RECORD_WORDS).min(numbers::MOST_RECORDS)
-}
-
-// What was found: a token, or why there is none.
-fn found(l: Looked) -> Result<Token, ParseError>
-    requires { IsLooked l }
-    ensures { looked_at result l.at ≡ l }
-{
-    match l.code {
-        numbers::DONE => Ok(Token {
-            terminal: l.terminal,
-            length: l.length,
-        }),
-        numbers::NO_TERMINAL => Err(ParseError::NoTerminal),
-        numbers::UNEXPECTED => Err(ParseError::Unexpected {
-            length: l.length,
-            terminal: l.terminal,
-        }),
-        numbers::NO_GROUP => Err(ParseError::NoGroup { length: l.length }),
-        _ => Err(ParseError::AllowanceUsedUp),
-    }
 }
 
 // One turn: look, and do what the cell says.
@@ -58,9 +38,9 @@ fn turn(
     ensures kept_turn { KeptTurn img.now text.now allowance parser.old tree.old parser.new known.new tree.new result }
 {
     let top = usize::from(parser.stack.top());
-    let l = look::look(img, text, known, allowance, top, parser.at);
-    parser.at = l.at;
-    let token = found(l)?;
+    let next = look::look(img, text, known, allowance, top, parser.at);
+    parser.at = next.at;
+    let token = next.found?;
     act::perform(img, parser, tree, token)
 }
 

@@ -16,7 +16,7 @@ use Rattle.pack.specs.Image.{terminals, states, scan_states, groups, layout, acc
 use Rattle.shape.proofs.Good.{good_laid, good_acc}
 use Rattle.shape.proofs.GoodParser.{good_group}
 use Rattle.conditions.specs.Conditions.{Passes, sought}
-use Rattle.scan.specs.declared.Stop.{Stop}
+use Rattle.scan.specs.Scan.{Stop}
 use Rattle.scan.specs.Scan.{scan}
 use Rattle.scan.specs.Token.{chosen_in, terminal_of}
 use Rattle.scan.specs.Matching.{Accepts, Last}

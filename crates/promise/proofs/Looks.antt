@@ -11,10 +11,10 @@ use Rattle.sets.specs.Sets.{has, member, is_empty}
 use Rattle.sets.proofs.Laws.{has-lt}
 use Rattle.pack.specs.Image.{states, layout, all_but_end_and_layout}
 use Rattle.conditions.specs.Conditions.{Passes, sought}
-use Rattle.scan.specs.declared.Stop.{Stop}
+use Rattle.scan.specs.Scan.{Stop}
 use Rattle.scan.specs.Scan.{scan}
 use Rattle.look.specs.declared.Spot.{Spot}
-use Rattle.look.specs.declared.Looked.{Looked}
+use Rattle.look.specs.Look.{Looked}
 use Rattle.look.specs.Look.{scanned, past, seek, found, rescan, choose, sought_set, piece, is_layout, look_on, look}
 use Rattle.promise.specs.Cover.{NoMatch, Blank, Blanks, none, more}
 use Rattle.promise.specs.RightLook.{Sees, RightLook}

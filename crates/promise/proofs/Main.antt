@@ -28,7 +28,7 @@ use Rattle.text.specs.Writer.{text_of, write}
 use Rattle.text.proofs.RoundTrip as Text
 use Rattle.text.proofs.Reform as Reform
 use Rattle.look.specs.declared.Spot.{Spot}
-use Rattle.look.specs.declared.Looked.{Looked}
+use Rattle.look.specs.Look.{Looked}
 use Rattle.look.specs.Look.{look}
 use Rattle.records.specs.declared.Parsed.{Parsed}
 use Rattle.parse.specs.Leaf.{part}

@@ -11,7 +11,7 @@ use Rattle.conditions.specs.Conditions.{Passes}
 use Rattle.conditions.specs.Check.{passed, check}
 use Rattle.conditions.proofs.Answers.{checked_passes}
 use Rattle.look.specs.declared.Spot.{Spot}
-use Rattle.look.specs.declared.Looked.{Looked}
+use Rattle.look.specs.Look.{Looked}
 use Rattle.parse.specs.Parse.{Step, step, run, room_of, parse}
 use Rattle.parse.specs.Parse as Parsing
 use Rattle.promise.specs.Derivation.{Stands, bottom}

@@ -18,7 +18,7 @@ use Rattle.shape.proofs.GoodParser.{Coded, error, shift, reduce, coded, good_shi
 use Rattle.shape.proofs.GoodParser as Codes
 use Rattle.conditions.specs.Conditions.{Passes}
 use Rattle.look.specs.declared.Spot.{Spot}
-use Rattle.look.specs.declared.Looked.{Looked}
+use Rattle.look.specs.Look.{Looked}
 use Rattle.look.specs.Look.{past}
 use Rattle.parse.specs.Parse.{Standing, Ending, ending, Step, ends, goes, reduce_by, accept, perform, step}
 use Rattle.promise.specs.Derivation.{Stands}

@@ -20,7 +20,7 @@ use Rattle.scan.specs.Matching.{Leads, Matches, Last}
 use Rattle.scan.proofs.Matching.{same_state, one_last, led, some_bytes}
 use Rattle.scan.proofs.Longest.{accepted_alone}
 use Rattle.look.specs.declared.Spot.{Spot}
-use Rattle.look.specs.declared.Looked.{Looked}
+use Rattle.look.specs.Look.{Looked}
 use Rattle.parse.specs.Leaf.{part}
 use Rattle.parse.specs.Parse.{leaf_record, Ending}
 use Rattle.promise.specs.Cover.{alone, RightLeaf, Blank, Blanks, none, more}

@@ -17,7 +17,7 @@ use Rattle.scan.specs.Scan.{remember, move_on, onward, scan_from}
 use Rattle.scan.specs.Token.{chosen_in, terminal_of}
 use Rattle.scan.specs.Matching.{led_from, Leads, Last}
 use Rattle.look.specs.declared.Spot.{Spot}
-use Rattle.look.specs.declared.Looked.{Looked}
+use Rattle.look.specs.Look.{Looked}
 use Rattle.look.specs.Look.{seek, rescan, choose, piece, is_layout, look_on, look}
 use Rattle.parse.specs.Parse.{start, reduce_by, accept, perform, step, run, parse}
 use Rattle.conditions.specs.Tests.{all_below, some_below, implies, same as alike}

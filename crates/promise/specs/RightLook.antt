@@ -5,7 +5,7 @@ use Rattle.numbers.specs.Codes.{done, no_terminal, unexpected, allowance_used_up
 use Rattle.pack.specs.Image.{states, lhs, len, act, goto, end_of_text}
 use Rattle.conditions.specs.Edges.{Back}
 use Rattle.look.specs.declared.Spot.{Spot}
-use Rattle.look.specs.declared.Looked.{Looked}
+use Rattle.look.specs.Look.{Looked}
 use Rattle.look.specs.Look.{past, found, refused}
 use Rattle.parse.specs.Parse.{start}
 use Rattle.promise.specs.Cover.{RightLeaf, Blanks}

@@ -6,7 +6,7 @@ use Rattle.numbers.specs.Codes.{allowance_used_up}
 use Rattle.pack.specs.Image.{states, layout, valid_set}
 use Rattle.scan.specs.Matching.{Accepts, Matches}
 use Rattle.look.specs.declared.Spot.{Spot}
-use Rattle.look.specs.declared.Looked.{Looked}
+use Rattle.look.specs.Look.{Looked}
 use Rattle.look.specs.Look.{found, refused}
 use Rattle.parse.specs.Leaf.{part}
 

@@ -6,8 +6,8 @@ use Rattle.pack.specs.Image.{layout, valid_set, all_but_end_and_layout, end_of_t
 use Rattle.conditions.specs.Conditions.{sought}
 use Rattle.text.specs.Bytes.{bytes}
 use Rattle.look.specs.declared.Spot.{Spot}
-use Rattle.look.specs.declared.Sought.{Sought}
-use Rattle.look.specs.declared.Looked.{Looked}
+use Rattle.look.specs.Look.{Sought}
+use Rattle.look.specs.Look.{Looked}
 use Rattle.look.specs.Look.{past, seek, found, refused, rescan, choose, is_layout, look}
 
 -- A token kept across a reduction: in a state that only a reduction leads to, what the state before it finds at the spot is given.

@@ -17,8 +17,8 @@ use Rattle.numbers.specs.Codes.{tree_full, stack_full}
 use Rattle.pack.specs.Image.{goto, lhs, len}
 use Rattle.look.specs.declared.Spot.{Spot}
 use Rattle.look.specs.Look.{past}
-use Rattle.records.specs.declared.ParseError.{ParseError}
-use Rattle.records.specs.declared.ParseError.TheVariants.{Unexpected, Stuck, TreeFull, StackFull}
+use Rattle.look.specs.declared.ParseError.{ParseError}
+use Rattle.look.specs.declared.ParseError.TheVariants.{Unexpected, Stuck, TreeFull, StackFull}
 use Rattle.records.specs.declared.Turned.{Turned}
 use Rattle.records.specs.declared.Turned.TheVariants.{Accepted, Went}
 use Rattle.records.specs.Parse.{Standing, Ending, ends, goes, ending, wrote, top, shift_to, reduce_by, accept, perform}

@@ -1,15 +1,14 @@
 -- What the inner functions of the parse ask for and promise each other. No public entry point's contract cites it.
 use Rattle.std.specs.Prelude.{◌≡◌, true, false, List, ◌++◌, ℕ, zero, suc, ◌+◌, ◌-◌, ◌*◌, ◌/◌, ◌<◌, ◌≤◌, leb, length, get_or, take, drop, Result, Ok, Err}
-use Rattle.numbers.specs.Codes.{done, no_terminal, unexpected, no_group, stuck, tree_full, stack_full, allowance_used_up, most_states}
+use Rattle.numbers.specs.Codes.{done, tree_full, stack_full, most_states}
 use Rattle.pack.specs.Image.{states}
 use Rattle.look.specs.declared.Spot.{Spot}
 use Rattle.look.specs.Inner.{Known, Within}
-use Rattle.look.specs.declared.Looked.{Looked}
-use Rattle.look.specs.Look.{refused, found, look}
-use Rattle.records.specs.declared.ParseError.{ParseError}
-use Rattle.records.specs.declared.ParseError.TheVariants.{NoTerminal, Unexpected, NoGroup, Stuck, TreeFull, StackFull, AllowanceUsedUp}
+use Rattle.look.specs.Errors.{error_code, error_length, error_terminal}
+use Rattle.look.specs.Look.{look}
+use Rattle.look.specs.declared.ParseError.{ParseError}
+use Rattle.look.specs.declared.ParseError.TheVariants.{TreeFull, StackFull}
 use Rattle.records.specs.declared.Parsed.{Parsed}
-use Rattle.records.specs.declared.Token.{Token}
 use Rattle.records.specs.declared.Turned.{Turned}
 use Rattle.records.specs.declared.Turned.TheVariants.{Accepted, Went}
 use Rattle.records.specs.declared.parser.Parser.{Parser}
@@ -24,51 +23,12 @@ abbrev pub Stacked : ℕ → List ℕ → Type 0
 Stacked n stack = (i : ℕ) → get_or stack i 0 < n
 
 -- The manual's numbers of the end of a run.
-abbrev pub error_code : ParseError → ℕ
-error_code NoTerminal = no_terminal
-error_code (Unexpected size terminal) = unexpected
-error_code (NoGroup size) = no_group
-error_code Stuck = stuck
-error_code TreeFull = tree_full
-error_code StackFull = stack_full
-error_code AllowanceUsedUp = allowance_used_up
-
-abbrev pub error_length : ParseError → ℕ
-error_length NoTerminal = 0
-error_length (Unexpected size terminal) = size
-error_length (NoGroup size) = size
-error_length Stuck = 0
-error_length TreeFull = 0
-error_length StackFull = 0
-error_length AllowanceUsedUp = 0
-
-abbrev pub error_terminal : ParseError → ℕ
-error_terminal NoTerminal = 0
-error_terminal (Unexpected size terminal) = terminal
-error_terminal (NoGroup size) = 0
-error_terminal Stuck = 0
-error_terminal TreeFull = 0
-error_terminal StackFull = 0
-error_terminal AllowanceUsedUp = 0
-
 abbrev pub parsed_of : Result (Unit {0}) ParseError → ℕ → Spot → Parsed
 parsed_of (Ok u) records at = record { code = done; place = at.place; length = 0; terminal = 0; records = records; moves = at.moves }
 parsed_of (Err e) records at = record { code = error_code e; place = at.place; length = error_length e; terminal = error_terminal e; records = records; moves = at.moves }
 
 abbrev pub ended : Result (Unit {0}) ParseError → Standing → Ending
 ended e here = record { parsed = parsed_of e (length here.words / record_words) here.at; words = here.words }
-
--- What a look gives: a token, or why there is none.
-abbrev pub looked_at : Result Token ParseError → Spot → Looked
-looked_at (Ok t) at = found t.length t.terminal at
-looked_at (Err e) at = refused (error_code e) (error_length e) (error_terminal e) at
-
-pub data IsLooked : Looked → Type 0 where
-  is_token : (size terminal : ℕ) (at : Spot) → IsLooked (found size terminal at)
-  is_nothing : (at : Spot) → IsLooked (refused no_terminal 0 0 at)
-  is_another : (size terminal : ℕ) (at : Spot) → IsLooked (refused unexpected size terminal at)
-  is_several : (size : ℕ) (at : Spot) → IsLooked (refused no_group size 0 at)
-  is_spent : (at : Spot) → IsLooked (refused allowance_used_up 0 0 at)
 
 -- What a step comes to, within the room and the stack: "code 10 comes first, then 11, then 12".
 pub data Turn : Type 0 where

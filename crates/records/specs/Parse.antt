@@ -8,7 +8,7 @@ use Rattle.pack.specs.Image.{act, action_of, goto, lhs, len, of_nonterminal}
 use Rattle.numbers.specs.Verdicts.{Good, Wrong}
 use Rattle.shape.specs.Shape.{shape}
 use Rattle.look.specs.declared.Spot.{Spot}
-use Rattle.look.specs.declared.Looked.{Looked}
+use Rattle.look.specs.Look.{Looked}
 use Rattle.look.specs.Look.{past, look}
 use Rattle.records.specs.declared.Parsed.{Parsed}
 

@@ -8,6 +8,7 @@ ghost use Rattle.records.specs.Inner.{full, put4};
 mod parser; // parser.rt: where the parse stands, and the step that goes on
 mod stack; // stack.rt: the parse states
 
+use look::ParseError;
 pub use parser::Parser;
 pub use stack::Stack;
 
@@ -20,25 +21,6 @@ pub struct Parsed {
     pub terminal: usize,
     pub records: usize,
     pub moves: u32,
-}
-
-// Why a parse ends without a tree: the codes 7 to 13 of the manual, with the numbers that go with them.
-#[derive(Clone, Copy, Debug, PartialEq, Eq)]
-pub enum ParseError {
-    NoTerminal,
-    Unexpected { length: usize, terminal: usize },
-    NoGroup { length: usize },
-    Stuck,
-    TreeFull,
-    StackFull,
-    AllowanceUsedUp,
-}
-
-// A token: its terminal and the bytes that it takes.
-#[derive(Clone, Copy, Debug, PartialEq, Eq)]
-pub struct Token {
-    pub terminal: usize,
-    pub length: usize,
 }
 
 // What a turn comes to that is not refused: the text is accepted, or a record is written and the parse goes on.

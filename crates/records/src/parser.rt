@@ -2,8 +2,8 @@
 ghost use Rattle.std.specs.Prelude.{◌≡◌, ◌+◌, ◌-◌, ◌*◌, ◌<◌, ◌≤◌, ◌∷◌, ℕ, length, drop};
 
 use super::stack::Stack;
-use super::{ParseError, RECORD_WORDS, Turned, full, put};
-use look::Spot;
+use super::{RECORD_WORDS, Turned, full, put};
+use look::{ParseError, Spot};
 
 // Where the parse stands: its states, the records written of those that there is room for, and the spot in the text. The tree is lent
 // beside it.

@@ -1,79 +1,126 @@
--- One law for each way out of the loop of a scan, and one for its end, over what the callees ensure and the tests say, in the order
--- of the code. Assumes nothing.
-use mathlib.Core.Path.{◌≡◌, refl, sym, ◌∙◌}
-use mathlib.Core.List.{List}
-use mathlib.Core.Bool.{Bool, true, false}
+-- One law for each way out of the loop of a scan, in the order of the code, and one for a scan over the first bytes alone. Assumes nothing.
+use mathlib.Core.Path.{◌≡◌, refl, sym, ap, ◌∙◌}
+use mathlib.Core.List.{List, [], ◌∷◌}
+use mathlib.Core.Bool.{true, false}
 use Prim.Native.Nat.{ℕ, zero, suc, ◌+◌, ◌-◌, ◌<◌, ◌≤◌, min}
-use native.Mathlib.Nat.{sub-zero}
 use native.Mathlib.Omega.{arith}
 use lib.ListN.{length, get_or, take, drop, length-drop, drop_of_length-le}
 use lib.Seq.{drop-cons, drop-drop, take_all}
 use lib.Bits.{bit_and}
-use lib.Dec.{ltb}
-use borrow.Author.Tests.{eq-eqb, ne_eqb, lt-ltb, le-ltb, ltb-true, ltb-false}
+use borrow.Author.Tests.{eq-eqb, ne_eqb, lt-ltb, le-ltb}
+use Rattle.std.specs.Prelude.{Option, Result, Ok, Err}
 use Rattle.sets.specs.Sets.{meet, is_empty}
 use Rattle.numbers.specs.Verdicts.{Good, Wrong}
 use Rattle.numbers.specs.Codes.{query_too_long, wrong_shape}
-use Rattle.pack.specs.Image.{class_of, move, acc, rej, poss, all_but_end}
+use Rattle.pack.specs.Image.{scan_states, classes, class_of, move, acc, rej, poss, all_but_end}
 use Rattle.shape.specs.Shape.{shape}
+use Rattle.shape.proofs.Good.{good_move}
+use Rattle.classes.specs.Ready.{Ready}
+use Rattle.scan.specs.declared.Matched.{Matched}
 use Rattle.scan.specs.declared.Remembered.{Remembered}
-use Rattle.scan.specs.declared.Stop.{Stop}
-use Rattle.scan.specs.Scan.{nothing, remember, stopped, used_up, move_on, onward, scan_from, scan, stop_code, refused, scan_alone}
+use Rattle.scan.specs.declared.UsedUp.{UsedUp}
+use Rattle.scan.specs.declared.Found.{Found}
+use Rattle.scan.specs.Scan.{Stop, nothing, remember, stopped, used_up, move_on, onward, scan_from, scan, refused, answer, scan_alone}
+use Rattle.scan.specs.Found.{stop_of}
 
--- A stop, whatever is left of the allowance.
+-- A move leads to a scan state.
+pub move_in : (img : List ℕ) (q c : ℕ) → Ready img → q < scan_states img → c < classes img → move img q c ≤ scan_states img
+move_in img q c ready h k = good_move img ready.good q c h k
+
+-- A stop, whatever is left of the allowance; a move, with nothing left of it and with more.
 pub stops : (img : List ℕ) (v left : ℕ) (bytes : List ℕ) (q n : ℕ) (kept : Remembered) → onward img v q bytes ≡ 0 → scan_from img v left bytes q n kept ≡ stopped kept n
 unfolding scan_from
 stops img v zero bytes q n kept e = simp (scan_from, e)
 stops img v (suc left) bytes q n kept e = simp (scan_from, e)
 
--- The whole scan, as the code begins it.
-pub begins : (img : List ℕ) (v allowance : ℕ) (bytes : List ℕ) → scan img v allowance bytes ≡ scan_from img v (allowance - 0) bytes 0 0 nothing
-begins img v allowance bytes = rw (sub-zero allowance)
+pub stops_spent : (img : List ℕ) (v : ℕ) (bytes : List ℕ) (q n p : ℕ) (kept : Remembered) → onward img v q bytes ≡ suc p → scan_from img v 0 bytes q n kept ≡ used_up n
+unfolding scan_from
+stops_spent img v bytes q n p kept e = simp (scan_from, e)
 
--- The scan in state q after n moves, over the rest of the bytes.
-module _ (img : List ℕ) (v allowance : ℕ) (bytes : List ℕ) (q n : ℕ) (kept : Remembered) {p : ℕ} (e : p ≡ poss img q) where
-  pub nothing_possible : bit_and p v ≡ 0 → scan_from img v (allowance - n) (drop n bytes) q n kept ≡ stopped kept n
-  unfolding onward is_empty
-  nothing_possible t = stops img v (allowance - n) (drop n bytes) q n kept (simp (onward, is_empty, ← e, eq-eqb _ _ t))
+pub goes_on : (img : List ℕ) (v left : ℕ) (bytes : List ℕ) (q n p : ℕ) (kept : Remembered) → onward img v q bytes ≡ suc p
+    → scan_from img v (suc left) bytes q n kept ≡ scan_from img v left (drop 1 bytes) p (n + 1) (remember (meet (acc img p) v) (meet (rej img p) v) (n + 1) kept)
+unfolding scan_from
+goes_on img v left bytes q n p kept e = simp (scan_from, e)
 
-  module _ (s : bit_and p v ≡ 0 → ⊥) where
-    pub no_byte : length bytes ≤ n → scan_from img v (allowance - n) (drop n bytes) q n kept ≡ stopped kept n
-    unfolding onward move_on is_empty
-    no_byte h = stops img v (allowance - n) (drop n bytes) q n kept (rw (drop_of_length-le bytes h) (simp (onward, is_empty, ← e, ne_eqb _ _ s)))
+-- The scan in state q after n moves, over the rest of the bytes: nothing valid is possible; no byte is left; there is no move; the allowance is
+-- used up; it goes on.
+pub scan_impossible : (img : List ℕ) (v allowance : ℕ) (bytes : List ℕ) (q n : ℕ) (kept : Remembered) → bit_and (poss img q) v ≡ 0
+    → scan_from img v (allowance - n) (drop n bytes) q n kept ≡ stopped kept n
+unfolding onward is_empty
+scan_impossible img v allowance bytes q n kept h = stops img v (allowance - n) (drop n bytes) q n kept (simp (onward, is_empty, eq-eqb _ _ h))
 
-    -- Where no more bytes are to be looked at there is none, or the whole scan is made in another way.
-    pub either_end : {r : Stop} → (n < length bytes → r ≡ scan img v allowance bytes) → (length bytes ≤ n → r ≡ stopped kept n)
-        → scan img v allowance bytes ≡ scan_from img v (allowance - n) (drop n bytes) q n kept → r ≡ scan img v allowance bytes
-    either_end {r} another end inv = go (ltb n (length bytes)) refl
+pub scan_over : (img : List ℕ) (v allowance : ℕ) (bytes : List ℕ) (q n : ℕ) (kept : Remembered) → length bytes ≤ n
+    → scan_from img v (allowance - n) (drop n bytes) q n kept ≡ stopped kept n
+unfolding onward move_on is_empty
+scan_over img v allowance bytes q n kept h = rw (drop_of_length-le bytes h) (stops img v (allowance - n) [] q n kept (end (is_empty (meet (poss img q) v)) refl))
+  where
+    end : (b : _) → is_empty (meet (poss img q) v) ≡ b → onward img v q [] ≡ 0
+    end true e = simp (onward, e)
+    end false e = simp (onward, move_on, e)
+
+moving : (img : List ℕ) (v : ℕ) (bytes : List ℕ) (q n to : ℕ) → n < length bytes → (bit_and (poss img q) v ≡ 0 → ⊥) → to ≡ move img q (class_of img (get_or bytes n 0))
+    → onward img v q (drop n bytes) ≡ to
+unfolding onward move_on is_empty
+moving img v bytes q n to h s e = rw (drop-cons bytes n 0 h) (simp (onward, move_on, is_empty, ne_eqb _ _ s, ← e))
+
+pub scan_stuck : (img : List ℕ) (v allowance : ℕ) (bytes : List ℕ) (q n : ℕ) (kept : Remembered) → n < length bytes → (bit_and (poss img q) v ≡ 0 → ⊥)
+    → 0 ≡ move img q (class_of img (get_or bytes n 0)) → scan_from img v (allowance - n) (drop n bytes) q n kept ≡ stopped kept n
+scan_stuck img v allowance bytes q n kept h s e = stops img v (allowance - n) (drop n bytes) q n kept (moving img v bytes q n 0 h s e)
+
+pub scan_spent : (img : List ℕ) (v allowance : ℕ) (bytes : List ℕ) (q n : ℕ) (kept : Remembered) → n < length bytes → (bit_and (poss img q) v ≡ 0 → ⊥)
+    → (move img q (class_of img (get_or bytes n 0)) ≡ 0 → ⊥) → allowance ≤ n → scan_from img v (allowance - n) (drop n bytes) q n kept ≡ used_up n
+scan_spent img v allowance bytes q n kept h s t k =
+    let to : ℕ = move img q (class_of img (get_or bytes n 0)) in
+    let z : allowance - n ≡ 0 = omega arith in
+    let e : suc (to - 1) ≡ to = omega arith in
+    rw z (stops_spent img v (drop n bytes) q n (to - 1) kept (moving img v bytes q n (suc (to - 1)) h s e))
+
+pub scan_on : (img : List ℕ) (v allowance : ℕ) (bytes : List ℕ) (q n p : ℕ) (kept now : Remembered) → n < length bytes → (bit_and (poss img q) v ≡ 0 → ⊥)
+    → suc p ≡ move img q (class_of img (get_or bytes n 0)) → n < allowance
+    → now ≡ remember (meet (acc img p) v) (meet (rej img p) v) (n + 1) kept
+    → scan_from img v (allowance - n) (drop n bytes) q n kept ≡ scan_from img v (allowance - (n + 1)) (drop (n + 1) bytes) p (n + 1) now
+scan_on img v allowance bytes q n p kept now h s e k r =
+    let z : allowance - n ≡ suc (allowance - (n + 1)) = omega arith in
+    rw (z, r) (goes_on img v (allowance - (n + 1)) (drop n bytes) q n p kept (moving img v bytes q n (suc p) h s e) ∙ rw (drop-drop 1 n bytes) refl)
+
+-- A scan over the first k bytes that takes fewer moves than k is the scan over all of them.
+near_from : (img : List ℕ) (v k : ℕ) (bytes : List ℕ) (left q n : ℕ) (kept : Remembered) → (scan_from img v left (take k bytes) q n kept).moves < n + k
+    → scan_from img v left (take k bytes) q n kept ≡ scan_from img v left bytes q n kept
+unfolding onward move_on
+near_from img v zero bytes left q n kept h = absurd (omega (arith, ap (λ (s : Stop). s.moves) (over left q n kept)))
+  where
+    over : (left q n : ℕ) (kept : Remembered) → scan_from img v left [] q n kept ≡ stopped kept n
+    over left q n kept = stops img v left [] q n kept (end (is_empty (meet (poss img q) v)) refl)
       where
-        go : (x : Bool) → ltb n (length bytes) ≡ x → r ≡ scan img v allowance bytes
-        go true f = another (ltb-true n (length bytes) f)
-        go false f = let h = ltb-false n (length bytes) f in end h ∙ sym (inv ∙ no_byte h)
+        end : (b : _) → is_empty (meet (poss img q) v) ≡ b → onward img v q [] ≡ 0
+        end true e = simp (onward, e)
+        end false e = simp (onward, move_on, e)
+near_from img v (suc k) [] left q n kept h = refl
+near_from img v (suc k) (b ∷ bytes) left q n kept h = go (near_from img v k bytes) left (onward img v q (b ∷ [])) refl h
+  where
+    go : ((l p m : ℕ) (r : Remembered) → (scan_from img v l (take k bytes) p m r).moves < m + k → scan_from img v l (take k bytes) p m r ≡ scan_from img v l bytes p m r)
+        → (l x : ℕ) → onward img v q (b ∷ []) ≡ x → (scan_from img v l (b ∷ take k bytes) q n kept).moves < n + suc k
+        → scan_from img v l (b ∷ take k bytes) q n kept ≡ scan_from img v l (b ∷ bytes) q n kept
+    go ih l zero e m = stops img v l (b ∷ take k bytes) q n kept e ∙ sym (stops img v l (b ∷ bytes) q n kept e)
+    go ih zero (suc p) e m = stops_spent img v (b ∷ take k bytes) q n p kept e ∙ sym (stops_spent img v (b ∷ bytes) q n p kept e)
+    go ih (suc l) (suc p) e m =
+        let one = goes_on img v l (b ∷ take k bytes) q n p kept e in
+        one ∙ ih l p (n + 1) _ (omega (arith, m, ap (λ (s : Stop). s.moves) one)) ∙ sym (goes_on img v l (b ∷ bytes) q n p kept e)
 
-    module _ (h : n < length bytes) {to : ℕ} (g : to ≡ move img q (class_of img (get_or bytes n 0))) where
-      moving : onward img v q (drop n bytes) ≡ to
-      unfolding onward move_on is_empty
-      moving = rw (drop-cons bytes n 0 h) (simp (onward, move_on, is_empty, ← e, ne_eqb _ _ s, ← g))
+moves_of : (f : Found) → (stop_of f).moves ≡ f.moves
+moves_of f = go f.matched
+  where
+    go : (r : Result (Option Matched) UsedUp) → (stop_of (record { matched = r; moves = f.moves })).moves ≡ f.moves
+    go (Ok kept) = refl
+    go (Err e) = refl
 
-      pub no_move : to ≡ 0 → scan_from img v (allowance - n) (drop n bytes) q n kept ≡ stopped kept n
-      no_move t = stops img v (allowance - n) (drop n bytes) q n kept (moving ∙ t)
+pub stops_near : (img : List ℕ) (v allowance : ℕ) (bytes : List ℕ) (most k : ℕ) (f : Found) → k ≡ min (length bytes) most → stop_of f ≡ scan img v allowance (take k bytes)
+    → most < length bytes → f.moves < most → stop_of f ≡ scan img v allowance bytes
+stops_near img v allowance bytes most k f z e h l = e ∙ near_from img v k bytes allowance 0 0 nothing (omega (arith, z, h, l, moves_of f, ap (λ (s : Stop). s.moves) e))
 
-      module _ (t : to ≡ 0 → ⊥) where
-        one_more : to ≡ suc (to - 1)
-        one_more = omega arith
-
-        pub used_up_lem : allowance ≤ n → scan_from img v (allowance - n) (drop n bytes) q n kept ≡ used_up n
-        unfolding scan_from
-        used_up_lem k =
-            let z : allowance - n ≡ 0 = omega arith in
-            rw z (simp (scan_from, moving ∙ one_more))
-
-        pub moves_on : {now : Remembered} → n < allowance → now ≡ remember (meet (acc img (to - 1)) v) (meet (rej img (to - 1)) v) (n + 1) kept
-            → scan_from img v (allowance - n) (drop n bytes) q n kept ≡ scan_from img v (allowance - (n + 1)) (drop (n + 1) bytes) (to - 1) (n + 1) now
-        unfolding scan_from
-        moves_on k em =
-            let z : allowance - n ≡ suc (allowance - (n + 1)) = omega arith in
-            rw z (simp (scan_from, moving ∙ one_more, ← em, drop-drop 1 n bytes))
+pub stops_whole : (img : List ℕ) (v allowance : ℕ) (bytes : List ℕ) (most k : ℕ) (f : Found) → k ≡ min (length bytes) most → stop_of f ≡ scan img v allowance (take k bytes)
+    → length bytes ≤ most → stop_of f ≡ scan img v allowance bytes
+stops_whole img v allowance bytes most k f z e h = rw (take_all k bytes (omega arith)) at e
 
 -- "the rest of the text from the place on", as the code takes it.
 pub rest_of : (text : List ℕ) (place : ℕ) → take (length text - place) (drop place text) ≡ drop place text
@@ -90,8 +137,7 @@ module _ (img text : List ℕ) (start set allowance : ℕ) where
     unfolding scan_alone
     alone_wrong p e = simp (scan_alone, le-ltb _ _ h, sym e)
 
-    pub alone_scan : {p t k : ℕ} {rest : List ℕ} {stop : Stop} → Good ≡ shape img → p ≡ min start (length text) → t ≡ all_but_end img → rest ≡ drop p text
-        → stop ≡ scan img (bit_and set t) allowance rest → k ≡ stop_code stop.spent
-        → record { code = k; place = p; set = stop.set; length = stop.length; moves = stop.moves } ≡ scan_alone img text start set allowance
+    pub alone_scan : {p t : ℕ} {rest : List ℕ} {stop : Stop} → Good ≡ shape img → p ≡ min start (length text) → t ≡ all_but_end img → rest ≡ drop p text
+        → stop ≡ scan img (bit_and set t) allowance rest → answer p stop ≡ scan_alone img text start set allowance
     unfolding scan_alone
-    alone_scan g ep et er es ek = simp (scan_alone, le-ltb _ _ h, sym g, ← ep, ← et, ← er, ← es, ← ek)
+    alone_scan g ep et er es = simp (scan_alone, le-ltb _ _ h, sym g, ← ep, ← et, ← er, ← es)

@@ -18,7 +18,7 @@ use Rattle.pack.specs.Image.{terminals, scan_states, class_of, dom, move, acc, r
 use Rattle.shape.specs.Shape.{shape}
 use Rattle.shape.proofs.Good.{good_laid, good_move, good_class, good_acc, good_rej, good_disjoint, good_start}
 use Rattle.scan.specs.declared.Remembered.{Remembered}
-use Rattle.scan.specs.declared.Stop.{Stop}
+use Rattle.scan.specs.Scan.{Stop}
 use Rattle.scan.specs.Scan.{nothing, remember, scan_from, scan}
 use Rattle.scan.specs.Matching.{led_from, Last}
 use Rattle.conditions.specs.Conditions.{Subset, matched, K1, K2}

@@ -1,5 +1,5 @@
 -- What a scan gives, for callers that do not look into its definition. Assumes nothing.
-use mathlib.Core.Path.{◌≡◌, refl, sym, ◌∙◌}
+use mathlib.Core.Path.{◌≡◌, refl, sym, ap, ◌∙◌}
 use mathlib.Core.Bool.{Bool, true, false}
 use mathlib.Core.List.{List, [], ◌∷◌}
 use Prim.Native.Nat.{ℕ, zero, suc, ◌+◌, ◌<◌, ◌≤◌, ◌^◌}
@@ -16,9 +16,14 @@ use Rattle.pack.specs.Image.{terminals, scan_states, class_of, move, acc, rej, p
 use Rattle.shape.specs.Shape.{shape}
 use Rattle.shape.proofs.Good.{good_laid, good_move, good_class, good_acc, good_rej, good_poss}
 use Rattle.scan.specs.declared.Remembered.{Remembered}
-use Rattle.scan.specs.declared.Stop.{Stop}
+use Rattle.scan.specs.Scan.{Stop}
 use Rattle.scan.specs.Scan.{nothing, remember, stopped, used_up, move_on, onward, scan_from, scan}
 use Rattle.conditions.specs.Conditions.{Subset}
+use Rattle.std.specs.Prelude.{Option, Some, None, Result, Ok, Err, IfOk, IfSome}
+use Rattle.scan.specs.declared.Matched.{Matched}
+use Rattle.scan.specs.declared.UsedUp.{UsedUp}
+use Rattle.scan.specs.declared.Found.{Found}
+use Rattle.scan.specs.Found.{kept_of, stop_of}
 use Rattle.scan.proofs.Laws.{stops}
 
 -- The ways that one byte of a scan can go, and the end of the bytes. Theorems about the scan go by these and never look into it.
@@ -169,3 +174,29 @@ module _ (img : List ℕ) (good : shape img ≡ Good) (v w allowance : ℕ) (sam
 
   pub only_terminals : (bytes : List ℕ) → scan img v allowance bytes ≡ scan img w allowance bytes
   only_terminals bytes = same_from bytes allowance 0 0 nothing (omega (arith, good_laid img good))
+
+-- A stop has one form in code, since a match is never of the empty set.
+match_of : (a b c d : ℕ) → a ≡ b → c ≡ d → ◌≡◌ {A = Matched} (record { set = a; length = c }) (record { set = b; length = d })
+match_of a b c d e f = cc
+
+found_of : (a b : Result (Option Matched) UsedUp) (m n : ℕ) → a ≡ b → m ≡ n → ◌≡◌ {A = Found} (record { matched = a; moves = m }) (record { matched = b; moves = n })
+found_of a b m n e f = cc
+
+same_match : (a b : Option Matched) → IfSome a (λ m. m.set ≡ 0 → ⊥) → IfSome b (λ m. m.set ≡ 0 → ⊥) → kept_of a ≡ kept_of b → a ≡ b
+same_match None None s t e = refl
+same_match None (Some m) s t e = absurd (t (sym (ap (λ (k : Remembered). k.set) e)))
+same_match (Some m) None s t e = absurd (s (ap (λ (k : Remembered). k.set) e))
+same_match (Some m) (Some n) s t e =
+    ap (λ (k : Matched). Some k) (match_of m.set n.set m.length n.length (ap (λ (k : Remembered). k.set) e) (ap (λ (k : Remembered). k.length) e))
+
+same_result : (a b : Result (Option Matched) UsedUp) (m n : ℕ) → IfOk a (λ k. IfSome k (λ m. m.set ≡ 0 → ⊥)) → IfOk b (λ k. IfSome k (λ m. m.set ≡ 0 → ⊥))
+    → stop_of (record { matched = a; moves = m }) ≡ stop_of (record { matched = b; moves = n }) → (a ≡ b) × (m ≡ n)
+same_result (Ok a) (Ok b) m n s t e =
+    let x : kept_of a ≡ kept_of b = ap (λ (r : Stop). record { set = r.set; length = r.length }) e in
+    (ap (λ (k : Option Matched). Ok k) (same_match a b s t x), ap (λ (r : Stop). r.moves) e)
+same_result (Ok a) (Err u) m n s t e = let z : false ≡ true = ap (λ (r : Stop). r.spent) e in absurd (cc)
+same_result (Err u) (Ok b) m n s t e = let z : true ≡ false = ap (λ (r : Stop). r.spent) e in absurd (cc)
+same_result (Err u) (Err w) m n s t e = (refl, ap (λ (r : Stop). r.moves) e)
+
+pub one_found : (a b : Found) → IfOk a.matched (λ k. IfSome k (λ m. m.set ≡ 0 → ⊥)) → IfOk b.matched (λ k. IfSome k (λ m. m.set ≡ 0 → ⊥)) → stop_of a ≡ stop_of b → a ≡ b
+one_found a b s t e = let r = same_result a.matched b.matched a.moves b.moves s t e in found_of a.matched b.matched a.moves b.moves r.0 r.1

@@ -1,3 +1,4 @@
+pub mod Found
 pub mod Matching
 pub mod Scan
 pub mod Token

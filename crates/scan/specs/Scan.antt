@@ -6,8 +6,14 @@ use Rattle.numbers.specs.Codes.{done, wrong_shape, query_too_long, allowance_use
 use Rattle.pack.specs.Image.{class_of, move, acc, rej, poss, all_but_end}
 use Rattle.shape.specs.Shape.{shape}
 use Rattle.scan.specs.declared.Remembered.{Remembered}
-use Rattle.scan.specs.declared.Stop.{Stop}
 use Rattle.scan.specs.declared.Scanned.{Scanned}
+
+-- Where a scan stops: whether it asked for a move beyond the allowance, what it remembers (nothing where it did), and the moves that it took.
+pub record Stop : Type 0 where
+  pub spent : Bool
+  pub set : ℕ
+  pub length : ℕ
+  pub moves : ℕ
 
 -- No match.
 abbrev pub nothing : Remembered

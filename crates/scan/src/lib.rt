@@ -1,14 +1,13 @@
 // One scan, and the scan called by itself.
 #![tactic(auto)]
 
-ghost use Rattle.std.specs.Prelude.{◌≡◌, ◌+◌, ◌<◌, ◌≤◌, min, length};
+ghost use Rattle.std.specs.Prelude.{◌≡◌, ℕ, ◌<◌, IfSome, IfOk};
 ghost use Rattle.sets.specs.Sets.{meet};
-ghost use Rattle.pack.specs.Image.{scan_states, move, acc, rej, class_of, all_but_end};
+ghost use Rattle.pack.specs.Image.{scan_states, classes, move, acc, rej, class_of, all_but_end};
 ghost use Rattle.pack.specs.Laid.{Laid};
-ghost use Rattle.shape.specs.Shape.{shape};
 ghost use Rattle.classes.specs.Ready.{Ready};
-ghost use Rattle.index.specs.Index.{Indexed};
-ghost use Rattle.scan.specs.Scan.{remember, stopped, used_up, scan, stop_code, refused, scan_alone};
+ghost use Rattle.scan.specs.Scan.{remember, stopped, scan, answer, scan_alone};
+ghost use Rattle.scan.specs.Found.{one_more, kept_of, stop_of};
 
 use numbers::WrongWord;
 use pack::image;
@@ -16,25 +15,33 @@ use pack::image;
 // So many bytes make a scan a long one, for which an index of the ranges pays.
 const LONG: usize = 512;
 
-// What a scan remembers: the terminals matched last and the length of that match; both 0 for none.
-#[derive(Clone, Copy)]
-pub struct Remembered {
+// What a scan matched last: the terminals, one or more of them, and the length of that match.
+#[derive(Clone, Copy, Debug, PartialEq, Eq)]
+pub struct Matched {
     pub set: u64,
     pub length: usize,
 }
 
-// Where a scan stops: whether it asked for a move beyond the allowance, what it remembers (nothing where
-// it did), and the moves that it took.
-#[derive(Clone, Copy)]
-pub struct Stop {
-    pub spent: bool,
-    pub set: u64,
-    pub length: usize,
+// What a scan remembers on its way: the same, or both 0 for none. Two numbers, since a branch for each byte makes a scan twice as slow.
+#[derive(Clone, Copy, Debug, PartialEq, Eq)]
+struct Remembered {
+    set: u64,
+    length: usize,
+}
+
+// A move beyond the allowance was asked for.
+#[derive(Clone, Copy, Debug, PartialEq, Eq)]
+pub struct UsedUp;
+
+// Where a scan stops: what it remembers, if anything, and the moves that it took.
+#[derive(Clone, Copy, Debug, PartialEq, Eq)]
+pub struct Found {
+    pub matched: Result<Option<Matched>, UsedUp>,
     pub moves: usize,
 }
 
 // What the scan called by itself gives.
-#[derive(Clone, Copy)]
+#[derive(Clone, Copy, Debug, PartialEq, Eq)]
 pub struct Scanned {
     pub code: u8,
     pub place: usize,
@@ -43,14 +50,17 @@ pub struct Scanned {
     pub moves: usize,
 }
 
-// What is remembered after move n, into a state that accepts and rejects these of the valid set.
-fn remember(accepted: u64, rejected: u64, n: usize, before: Remembered) -> Remembered
-    ensures { result ≡ remember accepted rejected n before }
+// What is remembered after so many moves, into a state that accepts and rejects these of the valid set.
+#[tactic(auto, unfolding(crate::specs::Scan::remember, sets::specs::Sets::is_empty))]
+fn remember(accepted: u64, rejected: u64, length: usize, before: Remembered) -> Remembered
+    requires { before.set ≡ 0 → before.length ≡ 0 }
+    ensures value { result ≡ remember accepted rejected length before }
+    ensures none { result.set ≡ 0 → result.length ≡ 0 }
 {
     if accepted != 0 {
         return Remembered {
             set: accepted,
-            length: n,
+            length,
         };
     }
     if rejected != 0 {
@@ -59,139 +69,134 @@ fn remember(accepted: u64, rejected: u64, n: usize, before: Remembered) -> Remem
     before
 }
 
-// Where scan state q moves on a byte: 0 for nowhere, or 1 more than the state.
-fn move_on(img: &[u16], q: usize, b: u8) -> usize
-    requires ready { Ready img.now }
-    requires q_bound { q < scan_states img.now }
-    ensures { (result ≡ move img.now q (class_of img.now b)) × (result ≤ scan_states img.now) }
-{
-    image::move_of(img, q, classes::class_of(img, b))
-}
-
-// The same, by an index of the ranges.
-fn move_by(img: &[u16], index: &[u32; 32], q: usize, b: u8) -> usize
-    requires ready { Ready img.now }
-    requires indexed { Indexed img.now index.now }
-    requires q_bound { q < scan_states img.now }
-    ensures { (result ≡ move img.now q (class_of img.now b)) × (result ≤ scan_states img.now) }
-{
-    image::move_of(img, q, index::class_by(img, index, b))
-}
-
 // What is remembered in a new state.
-fn entered(img: &[u16], v: u64, q: usize, n: usize, before: Remembered) -> Remembered
+fn entered(img: &[u16], v: u64, state: usize, length: usize, before: Remembered) -> Remembered
     requires ready { Ready img.now }
-    requires q_bound { q < scan_states img.now }
-    ensures { result ≡ remember (meet (acc img.now q) v) (meet (rej img.now q) v) n before }
+    requires state_bound { state < scan_states img.now }
+    requires none_before { before.set ≡ 0 → before.length ≡ 0 }
+    ensures value { result ≡ remember (meet (acc img.now state) v) (meet (rej img.now state) v) length before }
+    ensures none { result.set ≡ 0 → result.length ≡ 0 }
 {
-    let acc = image::acc(img, q);
-    let rej = image::rej(img, q);
-    remember(acc & v, rej & v, n, before)
+    let acc = image::acc(img, state);
+    let rej = image::rej(img, state);
+    remember(acc & v, rej & v, length, before)
 }
 
-// A stop: what is remembered is the result.
-fn stopped(kept: Remembered, n: usize) -> Stop
-    ensures { result ≡ stopped kept n }
+// A stop: what is remembered is the match.
+fn stopped(kept: Remembered, moves: usize) -> Found
+    requires { kept.set ≡ 0 → kept.length ≡ 0 }
+    ensures value { stop_of result ≡ stopped kept moves }
+    ensures some { IfOk result.matched (λ matched. IfSome matched (λ m. m.set ≡ 0 → ⊥)) }
 {
-    Stop {
-        spent: false,
-        set: kept.set,
-        length: kept.length,
-        moves: n,
+    if kept.set == 0 {
+        return Found {
+            matched: Ok(None),
+            moves,
+        };
+    }
+    Found {
+        matched: Ok(Some(Matched {
+            set: kept.set,
+            length: kept.length,
+        })),
+        moves,
     }
 }
 
-// A move beyond the allowance is asked for.
-fn used_up(n: usize) -> Stop
-    ensures { result ≡ used_up n }
+// The scan state that a scan state moves to on bytes of a class.
+#[tactic(auto, using(crate::proofs::Laws::move_in))]
+fn next(img: &[u16], state: usize, class: usize) -> Option<usize>
+    requires ready { Ready img.now }
+    requires in_table { (state < scan_states img.now) × (class < classes img.now) }
+    ensures value { one_more result ≡ move img.now state class }
+    ensures in_states { IfSome result (λ q. q < scan_states img.now) }
 {
-    Stop {
-        spent: true,
-        set: 0,
-        length: 0,
-        moves: n,
+    let to = image::move_of(img, state, class);
+    if to == 0 {
+        return None;
     }
+    Some(to - 1)
+}
+
+// One scan over these bytes, by whatever finds the class of a byte.
+#[tactic(auto, using(crate::proofs::Laws::scan_impossible, crate::proofs::Laws::scan_stuck, crate::proofs::Laws::scan_spent, crate::proofs::Laws::scan_on, crate::proofs::Laws::scan_over))]
+fn scan_by<F: Fn(u8) -> usize>(
+    img: &[u16],
+    class: F,
+    v: u64,
+    allowance: usize,
+    bytes: &[u8],
+) -> Found
+    requires ready { Ready img.now }
+    requires callable { F.IsAlwaysCallable class }
+    requires finds { (b c : ℕ) → b < 256 → F.post class b c → (c ≡ class_of img.now b) × (c < classes img.now) }
+    ensures value { stop_of result ≡ scan img.now v allowance bytes.now }
+    ensures some { IfOk result.matched (λ matched. IfSome matched (λ m. m.set ≡ 0 → ⊥)) }
+{
+    let mut state: usize = 0;
+    let mut moves: usize = 0;
+    let mut kept = Remembered { set: 0, length: 0 };
+    while image::poss(img, state) & v != 0 {
+        if bytes.len() <= moves {
+            return stopped(kept, moves);
+        }
+        let Some(to) = next(img, state, class(bytes[moves])) else {
+            return stopped(kept, moves);
+        };
+        if allowance <= moves {
+            return Found {
+                matched: Err(UsedUp),
+                moves,
+            };
+        }
+        state = to;
+        moves += 1;
+        kept = entered(img, v, state, moves, kept);
+    }
+    stopped(kept, moves)
 }
 
 // One scan over the rest of the text, by an index of the ranges, which is filled first: for a long one.
-fn long_scan(img: &[u16], v: u64, allowance: usize, bytes: &[u8]) -> Stop
+fn long_scan(img: &[u16], v: u64, allowance: usize, bytes: &[u8]) -> Found
     requires { Ready img.now }
-    ensures { result ≡ scan img.now v allowance bytes.now }
+    ensures value { stop_of result ≡ scan img.now v allowance bytes.now }
+    ensures some { IfOk result.matched (λ matched. IfSome matched (λ m. m.set ≡ 0 → ⊥)) }
 {
     let index = index::index_of(img);
-    let mut state: usize = 0;
-    let mut moves: usize = 0;
-    let mut last = Remembered { set: 0, length: 0 };
-    loop {
-        if image::poss(img, state) & v == 0 {
-            return stopped(last, moves);
-        }
-        if bytes.len() <= moves {
-            return stopped(last, moves);
-        }
-        let to = move_by(img, &index, state, bytes[moves]);
-        if to == 0 {
-            return stopped(last, moves);
-        }
-        if allowance <= moves {
-            return used_up(moves);
-        }
-        state = to - 1;
-        moves += 1;
-        last = entered(img, v, state, moves, last);
-    }
+    scan_by(
+        img,
+        |byte| index::class_by(img, &index, byte),
+        v,
+        allowance,
+        bytes,
+    )
 }
 
-// After n moves, at the end of the text or of what is scanned without an index: there the scan begins again with one.
-fn beyond(img: &[u16], v: u64, allowance: usize, bytes: &[u8], n: usize, kept: Remembered) -> Stop
+// One scan over the rest of the text. It goes by the ranges themselves, and where it turns out to be long it begins again with an index of them.
+// Inner: its callers have tested the shape.
+pub fn one_scan(img: &[u16], v: u64, allowance: usize, bytes: &[u8]) -> Found
     requires { Ready img.now }
-    ensures before_the_end { n < length bytes.now → result ≡ scan img.now v allowance bytes.now }
-    ensures at_the_end { length bytes.now ≤ n → result ≡ stopped kept n }
+    ensures value { stop_of result ≡ scan img.now v allowance bytes.now }
+    ensures some { IfOk result.matched (λ matched. IfSome matched (λ m. m.set ≡ 0 → ⊥)) }
 {
-    if n < bytes.len() {
-        return long_scan(img, v, allowance, bytes);
+    let near = &bytes[..bytes.len().min(LONG)];
+    let found = scan_by(img, |byte| classes::class_of(img, byte), v, allowance, near);
+    if bytes.len() <= LONG || found.moves < LONG {
+        return found;
     }
-    stopped(kept, n)
-}
-
-// One scan over the rest of the text. Inner: its callers have tested the shape.
-pub fn one_scan(img: &[u16], v: u64, allowance: usize, bytes: &[u8]) -> Stop
-    requires { Ready img.now }
-    ensures { result ≡ scan img.now v allowance bytes.now }
-{
-    let near = within(bytes.len(), LONG);
-    let mut q: usize = 0;
-    let mut n: usize = 0;
-    let mut kept = Remembered { set: 0, length: 0 };
-    loop {
-        if image::poss(img, q) & v == 0 {
-            return stopped(kept, n);
-        }
-        if near <= n {
-            return beyond(img, v, allowance, bytes, n, kept);
-        }
-        let to = move_on(img, q, bytes[n]);
-        if to == 0 {
-            return stopped(kept, n);
-        }
-        if allowance <= n {
-            return used_up(n);
-        }
-        q = to - 1;
-        n += 1;
-        kept = entered(img, v, q, n, kept);
-    }
+    long_scan(img, v, allowance, bytes)
 }
 
 // One scan over the rest of the text, with an index from the start where it may be a long one.
-fn any_scan(img: &[u16], v: u64, allowance: usize, bytes: &[u8]) -> Stop
+fn any_scan(img: &[u16], v: u64, allowance: usize, bytes: &[u8]) -> Found
     requires { Ready img.now }
-    ensures { result ≡ scan img.now v allowance bytes.now }
+    ensures value { stop_of result ≡ scan img.now v allowance bytes.now }
+    ensures some { IfOk result.matched (λ matched. IfSome matched (λ m. m.set ≡ 0 → ⊥)) }
 {
-    if bytes.len() < LONG {
-        return one_scan(img, v, allowance, bytes);
+    if LONG <= bytes.len() {
+        return long_scan(img, v, allowance, bytes);
     }
-    long_scan(img, v, allowance, bytes)
+    one_scan(img, v, allowance, bytes)
 }
 
 // All terminals but the end of the text.
@@ -206,14 +211,29 @@ pub fn all_but_end(img: &[u16]) -> u64
     18446744073709551614
 }
 
-// The code of a scan that stopped.
-fn stop_code(spent: bool) -> u8
-    ensures { result ≡ stop_code spent }
+// The five numbers; set and length are 0 where nothing is remembered.
+fn five_numbers(code: u8, place: usize, kept: Option<Matched>, moves: usize) -> Scanned
+    ensures { result ≡ record { code = code; place = place; set = (kept_of kept).set; length = (kept_of kept).length; moves = moves } }
 {
-    if spent {
-        return numbers::ALLOWANCE_USED_UP;
+    let last = kept.unwrap_or(Matched { set: 0, length: 0 });
+    Scanned {
+        code,
+        place,
+        set: last.set,
+        length: last.length,
+        moves,
     }
-    numbers::DONE
+}
+
+// The numbers of a scan that stopped.
+#[tactic(auto, unfolding(crate::specs::Scan::stop_code))]
+fn answer(place: usize, found: Found) -> Scanned
+    ensures { result ≡ answer place (stop_of found) }
+{
+    match found.matched {
+        Ok(kept) => five_numbers(numbers::DONE, place, kept, found.moves),
+        Err(UsedUp) => five_numbers(numbers::ALLOWANCE_USED_UP, place, None, found.moves),
+    }
 }
 
 // The scan called by itself. It asks nothing: a start past the text counts as its end, and what is no token is dropped from the set.
@@ -221,46 +241,17 @@ pub fn scan(img: &[u16], text: &[u8], start: usize, set: u64, allowance: u32) ->
     ensures { result ≡ scan_alone img.now text.now start set allowance }
 {
     if numbers::LONGEST_TEXT < text.len() {
-        return refusal(numbers::QUERY_TOO_LONG, 0);
+        return five_numbers(numbers::QUERY_TOO_LONG, 0, None, 0);
     }
     if let Err(WrongWord(place)) = shape::shape(img) {
-        return refusal(numbers::WRONG_SHAPE, place);
+        return five_numbers(numbers::WRONG_SHAPE, place, None, 0);
     }
-    let place = within(start, text.len());
-    let stop = any_scan(
+    let place = start.min(text.len());
+    let found = any_scan(
         img,
         set & all_but_end(img),
         allowance as usize,
         &text[place..],
     );
-    Scanned {
-        code: stop_code(stop.spent),
-        place,
-        set: stop.set,
-        length: stop.length,
-        moves: stop.moves,
-    }
-}
-
-// A refusal: all but the code and the place is 0.
-fn refusal(code: u8, place: usize) -> Scanned
-    ensures { result ≡ refused code place }
-{
-    Scanned {
-        code,
-        place,
-        set: 0,
-        length: 0,
-        moves: 0,
-    }
-}
-
-// The smaller of the two.
-fn within(start: usize, end: usize) -> usize
-    ensures { result ≡ min start end }
-{
-    if start < end {
-        return start;
-    }
-    end
+    answer(place, found)
 }

@@ -2,13 +2,14 @@
 // tested the shape.
 #![tactic(auto)]
 
-ghost use Rattle.std.specs.Prelude.{◌≡◌, ◌<◌, ◌≤◌};
+ghost use Rattle.std.specs.Prelude.{◌≡◌, ◌<◌, IfSome};
 ghost use Rattle.numbers.specs.Verdicts.{Good};
 ghost use Rattle.pack.specs.Image.{terminals};
 ghost use Rattle.pack.specs.Laid.{Laid};
 ghost use Rattle.shape.specs.Shape.{shape};
 ghost use Rattle.sets.specs.Sets.{lowest};
 ghost use Rattle.scan.specs.Token.{chosen_of, terminal_of};
+ghost use Rattle.scan.specs.Found.{one_more};
 ghost use Rattle.token.specs.Terms.{Terms};
 
 use pack::image;
@@ -21,33 +22,34 @@ pub fn least(img: &[u16], set: u64) -> usize
     sets::lowest(set) as usize
 }
 
-// 1 more than the chosen terminal of the group whose set this is, or 0 where there is none.
-fn chosen_of(img: &[u16], set: u64) -> usize
+// The chosen terminal of the group whose set this is, where there is one.
+#[tactic(auto, using(crate::proofs::Laws::chosen_none, crate::proofs::Laws::chosen_hit, crate::proofs::Laws::chosen_on, crate::proofs::Laws::chosen_small))]
+fn chosen_of(img: &[u16], set: u64) -> Option<usize>
     requires laid { Laid img.now }
     requires good_shape { shape img.now ≡ Good }
     requires terms { Terms img.now set }
-    ensures { (result ≡ chosen_of img.now set) × (result ≤ terminals img.now) }
+    ensures value { one_more result ≡ chosen_of img.now set }
+    ensures small { IfSome result (λ t. t < terminals img.now) }
 {
-    let n = image::groups(img);
-    let mut g: usize = 0;
-    while g < n {
+    for g in 0..image::groups(img) {
         if image::group_set(img, g) == set {
-            return image::chosen(img, g) + 1;
+            return Some(image::chosen(img, g));
         }
-        g += 1;
     }
-    0
+    None
 }
 
-// 1 more than the terminal that a set stands for, or 0 where it is no group.
-pub fn terminal_of(img: &[u16], set: u64) -> usize
+// The terminal that a set stands for, where it is one terminal or the set of a group.
+#[tactic(auto, unfolding(scan::specs::Token::terminal_of))]
+pub fn terminal_of(img: &[u16], set: u64) -> Option<usize>
     requires laid { Laid img.now }
     requires good_shape { shape img.now ≡ Good }
     requires some_terms { (set ≡ 0 → ⊥) × Terms img.now set }
-    ensures { (result ≡ terminal_of img.now set) × (result ≤ terminals img.now) }
+    ensures value { one_more result ≡ terminal_of img.now set }
+    ensures small { IfSome result (λ t. t < terminals img.now) }
 {
     if sets::several(set) {
         return chosen_of(img, set);
     }
-    least(img, set) + 1
+    Some(least(img, set))
 }

@@ -1,15 +1,16 @@
-use mathlib.Core.Path.{◌∙◌}
-use Rattle.look.proofs.Laws.{piece_spent, piece_none, piece_some, within_none, within_chosen}
+use mathlib.Core.Path.{refl, ◌∙◌}
+use Rattle.look.proofs.Laws.{piece_spent, piece_none, piece_some}
 use Rattle.look.proofs.piece.Goals as goal
 
-pub returns-then-f : goal.returns-then-f
-returns-then-f c =
-    let e = c.refused.ensures in record { for_its_state = λ s v. e ∙ piece_spent _ _ _ s _ v c.seek-f.ensures.value c.if-f.true; looked_within = rw e (within_none _ _ _ _ c.seek-f.ensures.sought_within c.requires.ready.laid.sized.t_least) }
+pub returns-in-Ok-Some-clause-for_its_state : goal.returns-in-Ok-Some-clause-for_its_state
+returns-in-Ok-Some-clause-for_its_state c = λ s v.
+    let e = rw c.in-Ok-Some.field-0-is at c.in-Ok-Some.ensures in
+    c.choose.ensures.value _ ∙ piece_some _ _ _ s _ v e.value refl e.some
 
-pub returns-then-f-eq0 : goal.returns-then-f-eq0
-returns-then-f-eq0 c =
-    record { for_its_state = λ s v. c.rescan.ensures.value ∙ piece_none _ _ _ s _ v c.seek-f.ensures.value c.if-f.false c.if-f-eq0.true; looked_within = c.rescan.ensures.looked_within }
+pub returns-in-Ok-None-clause-for_its_state : goal.returns-in-Ok-None-clause-for_its_state
+returns-in-Ok-None-clause-for_its_state c = λ s v.
+    let e = rw c.in-Ok-None.field-0-is at c.in-Ok-None.ensures in
+    c.rescan.ensures.value ∙ piece_none _ _ _ s _ v e.value refl refl
 
-pub returns : goal.returns
-returns c =
-    record { for_its_state = λ s v. c.choose.ensures.value ∙ piece_some _ _ _ s _ v c.seek-f.ensures.value c.if-f.false c.if-f-eq0.false; looked_within = within_chosen _ _ _ _ c.seek-f.ensures.sought_within c.choose.ensures.same_spot }
+pub returns-in-Err-clause-for_its_state : goal.returns-in-Err-clause-for_its_state
+returns-in-Err-clause-for_its_state c = λ s v. piece_spent _ _ _ s _ v c.in-Err.ensures.value refl

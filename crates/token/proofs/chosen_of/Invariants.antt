@@ -1,11 +1,8 @@
 use mathlib.Core.Path.{◌≡◌}
-use Prim.Native.Nat.{◌≤◌, ◌-◌}
+use Prim.Native.Nat.{◌-◌}
 use Rattle.pack.specs.Image.{groups}
 use Rattle.scan.specs.Token.{chosen_in}
 use Rattle.token.proofs.chosen_of.Given as goal
 
 abbrev pub invariant-loop-g : goal.invariant-loop-g
-invariant-loop-g l = (l.g ≤ l.n) × (chosen_in l.img l.set (groups l.img) 0 ≡ chosen_in l.img l.set (groups l.img - l.g) l.g)
-
-abbrev pub decreases-loop-g : goal.decreases-loop-g
-decreases-loop-g l = l.n - l.g
+invariant-loop-g l = chosen_in l.img l.set (groups l.img - l.g) l.g ≡ chosen_in l.img l.set (groups l.img) 0
