@@ -2,47 +2,28 @@
 // libraries: this program moves bytes and prints numbers. A kind of case that it does not know gives an empty line.
 #![tactic(auto)]
 
-ghost use Rattle.std.specs.Prelude.{◌+◌, ◌*◌, ◌<◌, length};
+ghost use Rattle.std.specs.Prelude.{◌<◌};
 
+use numbers::Answer;
 use std::io;
 use std::io::Read;
 
 // A length that says: as in the case before.
 const SAME: usize = 4294967295;
 
-fn wide(b: u8) -> usize
-    ensures { result < 256 }
-{
-    b as usize
-}
-
-fn long(x: u16) -> u64
-    ensures { result < 65536 }
-{
-    x as u64
-}
-
-// Two bytes as a word, the low one first.
-fn word(low: u8, high: u8) -> u16 {
-    (low as u16) + (high as u16) * 256
-}
-
 // Number i of the ten in a case's header.
-fn number(head: &[u8; 40], i: usize) -> usize
+fn number(head: &[u8; 40], i: usize) -> u32
     requires { i < 10 }
-    ensures { result < 4294967296 }
 {
-    wide(head[i * 4])
-        + wide(head[i * 4 + 1]) * 256
-        + wide(head[i * 4 + 2]) * 65536
-        + wide(head[i * 4 + 3]) * 16777216
+    let (numbers, _) = head.as_chunks::<4>();
+    u32::from_le_bytes(numbers[i])
 }
 
 // The words of pairs of bytes, the low one first, as many as there is room for.
 fn join(raw: &[u8], img: &mut [u16]) {
     let (pairs, _) = raw.as_chunks::<2>();
     for (cell, pair) in img.iter_mut().zip(pairs) {
-        *cell = word(pair[0], pair[1]);
+        *cell = u16::from_le_bytes(*pair);
     }
 }
 
@@ -56,8 +37,8 @@ fn shape(rt: &impl Print, img: &[u16]) -> io::Result<()> {
 }
 
 fn scan(rt: &impl Print, img: &[u16], text: &[u8], head: &[u8; 40]) -> io::Result<()> {
-    let set = (number(head, 4) as u64) + (number(head, 5) as u64) * 4294967296;
-    let r = scan::scan(img, text, number(head, 3), set, number(head, 6) as u32);
+    let set = u64::from(number(head, 4)) + u64::from(number(head, 5)) * 4294967296;
+    let r = scan::scan(img, text, number(head, 3) as usize, set, number(head, 6));
     println!(rt; "{},{},{},{},{}", r.code, r.place, r.set, r.length, r.moves)
 }
 
@@ -72,7 +53,7 @@ fn mixed(h: u64, x: u64) -> u64
 fn sum_of_words(room: &[u16]) -> u64 {
     let mut h: u64 = 1;
     for x in room {
-        h = mixed(h, long(*x));
+        h = mixed(h, u64::from(*x));
     }
     h
 }
@@ -80,7 +61,7 @@ fn sum_of_words(room: &[u16]) -> u64 {
 fn sum_of_bytes(room: &[u8]) -> u64 {
     let mut h: u64 = 1;
     for b in room {
-        h = mixed(h, long(word(*b, 0)));
+        h = mixed(h, u64::from(*b));
     }
     h
 }
@@ -102,112 +83,26 @@ fn pattern_of_bytes(room: &mut [u8]) {
     }
 }
 
-fn read_into(rt: &impl Print, text: &[u8], room: &mut [u16]) -> io::Result<()> {
-    pattern_of_words(room);
-    let a = reader::read(text, room);
-    let sum = sum_of_words(room);
-    println!(rt; "{},{},{sum}", a.code, a.number)
-}
-
-fn write_into(rt: &impl Print, img: &[u16], room: &mut [u8]) -> io::Result<()> {
-    pattern_of_bytes(room);
-    let a = writer::write(img, room);
-    let sum = sum_of_bytes(room);
-    println!(rt; "{},{},{sum}", a.code, a.number)
-}
-
-fn read_with(rt: &impl Print, text: &[u8], room: &mut [u16], n: usize) -> io::Result<()> {
-    let k = parts::least(n, room.len());
-    read_into(rt, text, &mut room[..k])
-}
-
-fn write_with(rt: &impl Print, img: &[u16], room: &mut [u8], n: usize) -> io::Result<()> {
-    let k = parts::least(n, room.len());
-    write_into(rt, img, &mut room[..k])
-}
-
-fn write2_into(rt: &impl Print, img: &[u16], room: &mut [u8]) -> io::Result<()> {
-    pattern_of_bytes(room);
-    let a = writer::write2(img, room);
-    let sum = sum_of_bytes(room);
-    println!(rt; "{},{},{sum}", a.code, a.number)
-}
-
-fn write2_with(rt: &impl Print, img: &[u16], room: &mut [u8], n: usize) -> io::Result<()> {
-    let k = parts::least(n, room.len());
-    write2_into(rt, img, &mut room[..k])
-}
-
-fn form2_into(rt: &impl Print, text: &[u8], room: &mut [u8]) -> io::Result<()> {
-    pattern_of_bytes(room);
-    let a = moves::to_form2(text, room);
-    let sum = sum_of_bytes(room);
-    println!(rt; "{},{},{sum}", a.code, a.number)
-}
-
-fn form2_with(rt: &impl Print, text: &[u8], room: &mut [u8], n: usize) -> io::Result<()> {
-    let k = parts::least(n, room.len());
-    form2_into(rt, text, &mut room[..k])
-}
-
-fn form1_into(rt: &impl Print, text: &[u8], room: &mut [u8]) -> io::Result<()> {
-    pattern_of_bytes(room);
-    let a = moves::to_form1(text, room);
-    let sum = sum_of_bytes(room);
-    println!(rt; "{},{},{sum}", a.code, a.number)
-}
-
-fn form1_with(rt: &impl Print, text: &[u8], room: &mut [u8], n: usize) -> io::Result<()> {
-    let k = parts::least(n, room.len());
-    form1_into(rt, text, &mut room[..k])
-}
-
-fn print_into(rt: &impl Print, tree: &[u16], text: &[u8], room: &mut [u8]) -> io::Result<()> {
-    pattern_of_bytes(room);
-    let a = printer::print(text, tree, room);
-    let sum = sum_of_bytes(room);
-    println!(rt; "{},{},{sum}", a.code, a.number)
-}
-
-fn print_with(
-    rt: &impl Print,
-    tree: &[u16],
-    text: &[u8],
-    room: &mut [u8],
-    n: usize,
-) -> io::Result<()> {
-    let k = parts::least(n, room.len());
-    print_into(rt, tree, text, &mut room[..k])
-}
-
+// The answer of a call that writes words to the front of a lent buffer, of which it is lent so many, and the checksum of these.
 fn read(rt: &impl Print, text: &[u8], n: usize) -> io::Result<()> {
     let mut room = [0u16; 20700];
-    read_with(rt, text, &mut room, n)
+    let k = parts::least(n, room.len());
+    let room = &mut room[..k];
+    pattern_of_words(room);
+    let a = reader::read(text, room);
+    println!(rt; "{},{},{}", a.code, a.number, sum_of_words(room))
 }
 
-fn write(rt: &impl Print, img: &[u16], n: usize) -> io::Result<()> {
+// The same of a call that writes bytes.
+fn written<F: FnOnce(&mut [u8]) -> Answer>(rt: &impl Print, n: usize, write: F) -> io::Result<()>
+    requires { F.IsAlwaysCallable write }
+{
     let mut room = [0u8; 65600];
-    write_with(rt, img, &mut room, n)
-}
-
-fn write2(rt: &impl Print, img: &[u16], n: usize) -> io::Result<()> {
-    let mut room = [0u8; 65600];
-    write2_with(rt, img, &mut room, n)
-}
-
-fn form2(rt: &impl Print, text: &[u8], n: usize) -> io::Result<()> {
-    let mut room = [0u8; 65600];
-    form2_with(rt, text, &mut room, n)
-}
-
-fn form1(rt: &impl Print, text: &[u8], n: usize) -> io::Result<()> {
-    let mut room = [0u8; 65600];
-    form1_with(rt, text, &mut room, n)
-}
-
-fn printout(rt: &impl Print, tree: &[u16], text: &[u8], n: usize) -> io::Result<()> {
-    let mut room = [0u8; 65600];
-    print_with(rt, tree, text, &mut room, n)
+    let k = parts::least(n, room.len());
+    let room = &mut room[..k];
+    pattern_of_bytes(room);
+    let a = write(room);
+    println!(rt; "{},{},{}", a.code, a.number, sum_of_bytes(room))
 }
 
 fn check(rt: &impl Print, img: &[u16]) -> io::Result<()> {
@@ -215,43 +110,16 @@ fn check(rt: &impl Print, img: &[u16]) -> io::Result<()> {
     println!(rt; "{},{},{},{}", c.code, c.number, c.first, c.second)
 }
 
-fn parse_into(
-    rt: &impl Print,
-    img: &[u16],
-    text: &[u8],
-    tree: &mut [u16],
-    allowance: u32,
-) -> io::Result<()> {
+fn parse(rt: &impl Print, img: &[u16], text: &[u8], head: &[u8; 40]) -> io::Result<()> {
+    let mut tree = [0u16; 40000];
+    let k = parts::least(number(head, 3) as usize, tree.len());
+    let tree = &mut tree[..k];
     pattern_of_words(tree);
-    let p = parse::parse(img, text, tree, allowance);
+    let p = parse::parse(img, text, tree, number(head, 4));
     let sum = sum_of_words(tree);
     println!(rt;
         "{},{},{},{},{},{},{sum}",
         p.code, p.place, p.length, p.terminal, p.records, p.moves
-    )
-}
-
-fn parse_with(
-    rt: &impl Print,
-    img: &[u16],
-    text: &[u8],
-    tree: &mut [u16],
-    n: usize,
-    allowance: u32,
-) -> io::Result<()> {
-    let k = parts::least(n, tree.len());
-    parse_into(rt, img, text, &mut tree[..k], allowance)
-}
-
-fn parse(rt: &impl Print, img: &[u16], text: &[u8], head: &[u8; 40]) -> io::Result<()> {
-    let mut tree = [0u16; 40000];
-    parse_with(
-        rt,
-        img,
-        text,
-        &mut tree,
-        number(head, 3),
-        number(head, 4) as u32,
     )
 }
 
@@ -274,19 +142,19 @@ fn leaf(rt: &impl Print, text: &[u8], head: &[u8; 40]) -> io::Result<()> {
 }
 
 fn answer(rt: &impl Print, head: &[u8; 40], img: &[u16], text: &[u8]) -> io::Result<()> {
-    let n = number(head, 3);
+    let n = number(head, 3) as usize;
     match number(head, 0) {
         1 => shape(rt, img),
         2 => scan(rt, img, text, head),
         3 => read(rt, text, n),
-        4 => write(rt, img, n),
+        4 => written(rt, n, |room| writer::write(img, room)),
         5 => check(rt, img),
         6 => parse(rt, img, text, head),
         7 => leaf(rt, text, head),
-        8 => printout(rt, img, text, n),
-        9 => write2(rt, img, n),
-        10 => form2(rt, text, n),
-        11 => form1(rt, text, n),
+        8 => written(rt, n, |room| printer::print(text, img, room)),
+        9 => written(rt, n, |room| writer::write2(img, room)),
+        10 => written(rt, n, |room| moves::to_form2(text, room)),
+        11 => written(rt, n, |room| moves::to_form1(text, room)),
         _ => println!(rt; ""),
     }
 }
@@ -329,37 +197,34 @@ fn read_text(
     Ok(given)
 }
 
-// The lengths of the image and the text, and whether a case was there.
+// The lengths of the image and the text of a case.
 #[derive(Clone, Copy)]
 struct Held {
-    more: bool,
     words: usize,
     bytes: usize,
 }
 
+// Answers the next case, if there is one.
 fn one_case(
     rt: &impl Print,
     input: &mut impl Read,
     head: &mut [u8; 40],
     img: &mut [u16; 20700],
     text: &mut [u8; 65600],
-    held: Held,
-) -> io::Result<Held> {
+    before: Held,
+) -> io::Result<Option<Held>> {
     if parts::fill(input, head)? < 40 {
-        return Ok(Held {
-            more: false,
-            words: 0,
-            bytes: 0,
-        });
+        return Ok(None);
     }
-    let n = read_image(input, number(head, 1), held.words, img)?;
-    let m = read_text(input, number(head, 2), held.bytes, text)?;
-    answer(rt, head, parts::words(img, n), parts::bytes(text, m))?;
-    Ok(Held {
-        more: true,
-        words: n,
-        bytes: m,
-    })
+    let words = read_image(input, number(head, 1) as usize, before.words, img)?;
+    let bytes = read_text(input, number(head, 2) as usize, before.bytes, text)?;
+    answer(
+        rt,
+        head,
+        parts::words(img, words),
+        parts::bytes(text, bytes),
+    )?;
+    Ok(Some(Held { words, bytes }))
 }
 
 fn main(rt: HostRuntime) -> io::Result<()> {
@@ -367,15 +232,11 @@ fn main(rt: HostRuntime) -> io::Result<()> {
     let mut head = [0u8; 40];
     let mut img = [0u16; 20700];
     let mut text = [0u8; 65600];
-    let mut held = Held {
-        more: true,
-        words: 0,
-        bytes: 0,
-    };
+    let mut held = Held { words: 0, bytes: 0 };
     for _ in 0..u64::MAX {
-        held = one_case(&rt, &mut input, &mut head, &mut img, &mut text, held)?;
-        if !held.more {
-            break;
+        match one_case(&rt, &mut input, &mut head, &mut img, &mut text, held)? {
+            Some(next) => held = next,
+            None => break,
         }
     }
     Ok(())
