@@ -3,9 +3,12 @@
 use mathlib.Core.Path.{◌≡◌, sym, ◌∙◌}
 use mathlib.Core.List.{List}
 use Prim.Native.Nat.{ℕ}
+use Rattle.std.specs.Prelude.{Result}
 use Rattle.numbers.specs.Front.{buffer_after}
 use Rattle.numbers.specs.declared.Answer.{Answer}
-use Rattle.numbers.specs.Verdicts.{Verdict}
+use Rattle.numbers.specs.Verdicts.{Verdict, verdict_of}
+use Rattle.numbers.specs.declared.WrongWord.{WrongWord}
+use Rattle.numbers.proofs.Laws.{same_verdict}
 use Rattle.shape.specs.Shape.{shape}
 use Rattle.conditions.specs.declared.Checked.{Checked}
 use Rattle.conditions.specs.Check.{check}
@@ -29,6 +32,9 @@ unique_lent p q = (unique p.0 q.0, unique p.1 q.1)
 module _ (img text : List ℕ) where
   pub one_shape : {r s : Verdict} → r ≡ shape img → s ≡ shape img → r ≡ s
   one_shape = unique
+
+  pub one_shape_result : {r s : Result (Unit {0}) WrongWord} → verdict_of r ≡ shape img → verdict_of s ≡ shape img → r ≡ s
+  one_shape_result p q = same_verdict _ _ (unique p q)
 
   pub one_check : {r s : Checked} → r ≡ check img → s ≡ check img → r ≡ s
   one_check = unique
