@@ -40,6 +40,7 @@ fn write_cell<S: Sink>(out: &mut [u8], at: usize, first: bool, column: usize, co
 }
 
 // Whether the next cell is the first on its line.
+#[tactic(auto, unfolding(crate::specs::Steps::first_after))]
 pub fn first_after(first: bool, code: usize) -> bool
     ensures { result ≡ first_after first code }
 {

@@ -6,7 +6,7 @@ use native.Mathlib.Nat.{add-zero, zero-add, suc-mul}
 use native.Mathlib.Numerals.{add-one, sub-one}
 use native.Mathlib.Omega.{arith}
 use lib.ListN.{length, get_or, take, length-append}
-use lib.Seq.{take-suc, take_all}
+use lib.Seq.{take-suc}
 use Rattle.text.specs.declared.Kind.{Kind}
 use Rattle.text.specs.declared.Kind.TheVariants.{Number, Set}
 use Rattle.text.specs.Decimal.{decimal}

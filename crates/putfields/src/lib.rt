@@ -110,6 +110,7 @@ fn write_set<S: Sink>(out: &mut [u8], at: usize, img: &[u16], i: usize) -> usize
 }
 
 // The field whose words stand at a place of the image.
+#[tactic(auto, using(crate::proofs::FieldLaws::set_sixteen), unfolding(text::specs::Fields::field_text))]
 fn write_field<S: Sink>(out: &mut [u8], at: usize, img: &[u16], i: usize, kind: Kind) -> usize
     requires { (i ≤ 1000000) × (length (field_text kind img.now i) ≤ S.room out.old at) }
     ensures taken { S.takes out.old at (field_text kind img.now i) out.new result }

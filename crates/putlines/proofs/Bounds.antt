@@ -24,7 +24,7 @@ use Rattle.putfields.proofs.FieldLaws.{decimal_length, number_field, set_sixteen
 use Rattle.putcells.specs.Steps.{cell_text, first_after}
 use Rattle.putcells.proofs.CellLaws.{cell_length, cells_are}
 use Rattle.putlines.specs.Steps.{table_text}
-use Rattle.putlines.proofs.LineLaws.{group_length, sizes_text, text_length, tables_length, tables_none}
+use Rattle.putlines.proofs.LineLaws.{text_length, tables_length, tables_none}
 
 pack_seven : (form : Form) → length (pack_line form) ≡ 7
 unfolding pack_line

@@ -1,39 +1,22 @@
 -- Rows, lines and tables: what their texts are made of, and how long the parts are.
 use mathlib.Core.Path.{◌≡◌, refl, ap, ◌∙◌}
-use mathlib.Core.Bool.{true}
 use mathlib.Core.List.{List, [], ◌∷◌, ◌++◌}
 use Prim.Native.Nat.{ℕ, zero, suc, ◌+◌, ◌*◌, ◌-◌, ◌<◌, ◌≤◌}
 use native.Mathlib.Numerals.{sub-one}
 use native.Mathlib.Omega.{arith}
-use lib.ListN.{length, get_or, length-append}
+use lib.ListN.{length, length-append}
 use Rattle.pack.specs.Image.{layout_at}
 use Rattle.text.specs.declared.Form.{Form}
 use Rattle.text.specs.declared.Kind.TheVariants.{Number, Set}
 use Rattle.text.specs.declared.Row.{Row}
-use Rattle.text.specs.declared.Row.TheVariants.{Numbers, Cells, Sets, Production, Group}
+use Rattle.text.specs.declared.Row.TheVariants.{Numbers, Group}
 use Rattle.text.specs.Form.{newline, comma, row_width, sizes, pack_line, tables_of, table_at}
-use Rattle.text.specs.Writer.{fields_text, cells_text, row_text, lines_text, tables_text, text_of}
+use Rattle.text.specs.Writer.{fields_text, row_text, lines_text, tables_text, text_of}
 use Rattle.text.proofs.Tables.{tables_from, tables_on, tables_end}
 use Rattle.putlines.specs.Steps.{table_text}
 
 -- ---- rows
 module _ (row : Row) (img : List ℕ) (i : ℕ) where
-  pub numbers_row : (n : ℕ) → row ≡ Numbers n → row_text row img i ≡ fields_text Number n newline img i
-  unfolding row_text
-  numbers_row n e = rw e
-
-  pub cells_row : (n : ℕ) → row ≡ Cells n → row_text row img i ≡ cells_text true n 0 img i
-  unfolding row_text
-  cells_row n e = rw e
-
-  pub sets_row : (n : ℕ) → row ≡ Sets n → row_text row img i ≡ fields_text Set n newline img i
-  unfolding row_text
-  sets_row n e = rw e
-
-  pub production_row : (n : ℕ) → row ≡ Production → n ≡ get_or img (i + 1) 0 → row_text row img i ≡ fields_text Number (2 + n) newline img i
-  unfolding row_text
-  production_row n e f = rw (e, f)
-
   pub group_row : row ≡ Group → row_text row img i ≡ fields_text Set 1 comma img i ++ fields_text Number 1 newline img (i + 4)
   unfolding row_text
   group_row e = rw e

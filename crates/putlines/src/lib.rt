@@ -14,6 +14,7 @@ use putfields::{Sink, word, write_fields, write_name};
 use text::{COMMA, Form, Kind, NEWLINE, Row};
 
 // What stands behind the `=` of a line.
+#[tactic(auto, unfolding(text::specs::Form::row_width, text::specs::Writer::row_text))]
 fn write_row<S: Sink>(out: &mut [u8], at: usize, img: &[u16], i: usize, row: Row) -> usize
     requires { (i + row_width row ≤ largest_image) × (length (row_text row img.now i) ≤ S.room out.old at) }
     ensures taken { S.takes out.old at (row_text row img.now i) out.new result }
@@ -129,6 +130,7 @@ fn write_tables<S: Sink>(out: &mut [u8], at: usize, img: &[u16], form: Form) -> 
 }
 
 // The first line of a form.
+#[tactic(auto, unfolding(text::specs::Form::pack_line))]
 fn write_first<S: Sink>(out: &mut [u8], at: usize, form: Form) -> usize
     requires { length (pack_line form) ≤ S.room out.old at }
     ensures taken { S.takes out.old at (pack_line form) out.new result }
