@@ -1,14 +1,14 @@
--- One law for each way out of the loop of a scan, in the order of the code, and one for a scan over the first bytes alone. Assumes nothing.
+-- One law for each way out of the loop of a scan, in the order of the code, and one for its end. Assumes nothing.
 use mathlib.Core.Path.{◌≡◌, refl, sym, ap, ◌∙◌}
-use mathlib.Core.List.{List, [], ◌∷◌}
-use mathlib.Core.Bool.{true, false}
+use mathlib.Core.List.{List, []}
+use mathlib.Core.Bool.{Bool, true, false}
 use Prim.Native.Nat.{ℕ, zero, suc, ◌+◌, ◌-◌, ◌<◌, ◌≤◌, min}
 use native.Mathlib.Omega.{arith}
 use lib.ListN.{length, get_or, take, drop, length-drop, drop_of_length-le}
 use lib.Seq.{drop-cons, drop-drop, take_all}
 use lib.Bits.{bit_and}
-use borrow.Author.Tests.{eq-eqb, ne_eqb, lt-ltb, le-ltb}
-use Rattle.std.specs.Prelude.{Option, Result, Ok, Err}
+use lib.Dec.{ltb}
+use borrow.Author.Tests.{eq-eqb, ne_eqb, lt-ltb, le-ltb, ltb-true, ltb-false}
 use Rattle.sets.specs.Sets.{meet, is_empty}
 use Rattle.numbers.specs.Verdicts.{Good, Wrong}
 use Rattle.numbers.specs.Codes.{query_too_long, wrong_shape}
@@ -16,12 +16,8 @@ use Rattle.pack.specs.Image.{scan_states, classes, class_of, move, acc, rej, pos
 use Rattle.shape.specs.Shape.{shape}
 use Rattle.shape.proofs.Good.{good_move}
 use Rattle.classes.specs.Ready.{Ready}
-use Rattle.scan.specs.declared.Matched.{Matched}
 use Rattle.scan.specs.declared.Remembered.{Remembered}
-use Rattle.scan.specs.declared.UsedUp.{UsedUp}
-use Rattle.scan.specs.declared.Found.{Found}
 use Rattle.scan.specs.Scan.{Stop, nothing, remember, stopped, used_up, move_on, onward, scan_from, scan, refused, answer, scan_alone}
-use Rattle.scan.specs.Found.{stop_of}
 
 -- A move leads to a scan state.
 pub move_in : (img : List ℕ) (q c : ℕ) → Ready img → q < scan_states img → c < classes img → move img q c ≤ scan_states img
@@ -83,44 +79,15 @@ scan_on img v allowance bytes q n p kept now h s e k r =
     let z : allowance - n ≡ suc (allowance - (n + 1)) = omega arith in
     rw (z, r) (goes_on img v (allowance - (n + 1)) (drop n bytes) q n p kept (moving img v bytes q n (suc p) h s e) ∙ rw (drop-drop 1 n bytes) refl)
 
--- A scan over the first k bytes that takes fewer moves than k is the scan over all of them.
-near_from : (img : List ℕ) (v k : ℕ) (bytes : List ℕ) (left q n : ℕ) (kept : Remembered) → (scan_from img v left (take k bytes) q n kept).moves < n + k
-    → scan_from img v left (take k bytes) q n kept ≡ scan_from img v left bytes q n kept
-unfolding onward move_on
-near_from img v zero bytes left q n kept h = absurd (omega (arith, ap (λ (s : Stop). s.moves) (over left q n kept)))
+-- Where no more bytes are to be looked at there is none, or the whole scan is made in another way.
+pub either_end : (img : List ℕ) (v allowance : ℕ) (bytes : List ℕ) (q n : ℕ) (kept : Remembered) (r : Stop)
+    → (n < length bytes → r ≡ scan img v allowance bytes) → (length bytes ≤ n → r ≡ stopped kept n)
+    → scan_from img v (allowance - n) (drop n bytes) q n kept ≡ scan img v allowance bytes → r ≡ scan img v allowance bytes
+either_end img v allowance bytes q n kept r another end same = go (ltb n (length bytes)) refl
   where
-    over : (left q n : ℕ) (kept : Remembered) → scan_from img v left [] q n kept ≡ stopped kept n
-    over left q n kept = stops img v left [] q n kept (end (is_empty (meet (poss img q) v)) refl)
-      where
-        end : (b : _) → is_empty (meet (poss img q) v) ≡ b → onward img v q [] ≡ 0
-        end true e = simp (onward, e)
-        end false e = simp (onward, move_on, e)
-near_from img v (suc k) [] left q n kept h = refl
-near_from img v (suc k) (b ∷ bytes) left q n kept h = go (near_from img v k bytes) left (onward img v q (b ∷ [])) refl h
-  where
-    go : ((l p m : ℕ) (r : Remembered) → (scan_from img v l (take k bytes) p m r).moves < m + k → scan_from img v l (take k bytes) p m r ≡ scan_from img v l bytes p m r)
-        → (l x : ℕ) → onward img v q (b ∷ []) ≡ x → (scan_from img v l (b ∷ take k bytes) q n kept).moves < n + suc k
-        → scan_from img v l (b ∷ take k bytes) q n kept ≡ scan_from img v l (b ∷ bytes) q n kept
-    go ih l zero e m = stops img v l (b ∷ take k bytes) q n kept e ∙ sym (stops img v l (b ∷ bytes) q n kept e)
-    go ih zero (suc p) e m = stops_spent img v (b ∷ take k bytes) q n p kept e ∙ sym (stops_spent img v (b ∷ bytes) q n p kept e)
-    go ih (suc l) (suc p) e m =
-        let one = goes_on img v l (b ∷ take k bytes) q n p kept e in
-        one ∙ ih l p (n + 1) _ (omega (arith, m, ap (λ (s : Stop). s.moves) one)) ∙ sym (goes_on img v l (b ∷ bytes) q n p kept e)
-
-moves_of : (f : Found) → (stop_of f).moves ≡ f.moves
-moves_of f = go f.matched
-  where
-    go : (r : Result (Option Matched) UsedUp) → (stop_of (record { matched = r; moves = f.moves })).moves ≡ f.moves
-    go (Ok kept) = refl
-    go (Err e) = refl
-
-pub stops_near : (img : List ℕ) (v allowance : ℕ) (bytes : List ℕ) (most k : ℕ) (f : Found) → k ≡ min (length bytes) most → stop_of f ≡ scan img v allowance (take k bytes)
-    → most < length bytes → f.moves < most → stop_of f ≡ scan img v allowance bytes
-stops_near img v allowance bytes most k f z e h l = e ∙ near_from img v k bytes allowance 0 0 nothing (omega (arith, z, h, l, moves_of f, ap (λ (s : Stop). s.moves) e))
-
-pub stops_whole : (img : List ℕ) (v allowance : ℕ) (bytes : List ℕ) (most k : ℕ) (f : Found) → k ≡ min (length bytes) most → stop_of f ≡ scan img v allowance (take k bytes)
-    → length bytes ≤ most → stop_of f ≡ scan img v allowance bytes
-stops_whole img v allowance bytes most k f z e h = rw (take_all k bytes (omega arith)) at e
+    go : (x : Bool) → ltb n (length bytes) ≡ x → r ≡ scan img v allowance bytes
+    go true f = another (ltb-true n (length bytes) f)
+    go false f = let h = ltb-false n (length bytes) f in end h ∙ (sym (scan_over img v allowance bytes q n kept h) ∙ same)
 
 -- "the rest of the text from the place on", as the code takes it.
 pub rest_of : (text : List ℕ) (place : ℕ) → take (length text - place) (drop place text) ≡ drop place text

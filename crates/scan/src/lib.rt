@@ -1,12 +1,12 @@
 // One scan, and the scan called by itself.
 #![tactic(auto)]
 
-ghost use Rattle.std.specs.Prelude.{◌≡◌, ℕ, ◌<◌, IfSome, IfOk};
+ghost use Rattle.std.specs.Prelude.{◌≡◌, ◌<◌, ◌≤◌, length, IfSome, IfOk};
 ghost use Rattle.sets.specs.Sets.{meet};
-ghost use Rattle.pack.specs.Image.{scan_states, classes, move, acc, rej, class_of, all_but_end};
+ghost use Rattle.pack.specs.Image.{scan_states, classes, move, acc, rej, all_but_end};
 ghost use Rattle.pack.specs.Laid.{Laid};
 ghost use Rattle.classes.specs.Ready.{Ready};
-ghost use Rattle.scan.specs.Scan.{remember, stopped, scan, answer, scan_alone};
+ghost use Rattle.scan.specs.Scan.{remember, stopped, used_up, scan, answer, scan_alone};
 ghost use Rattle.scan.specs.Found.{one_more, kept_of, stop_of};
 
 use numbers::WrongWord;
@@ -103,6 +103,17 @@ fn stopped(kept: Remembered, moves: usize) -> Found
     }
 }
 
+// A move beyond the allowance is asked for.
+fn used_up(moves: usize) -> Found
+    ensures value { stop_of result ≡ used_up moves }
+    ensures some { IfOk result.matched (λ matched. IfSome matched (λ m. m.set ≡ 0 → ⊥)) }
+{
+    Found {
+        matched: Err(UsedUp),
+        moves,
+    }
+}
+
 // The scan state that a scan state moves to on bytes of a class.
 #[tactic(auto, using(crate::proofs::Laws::move_in))]
 fn next(img: &[u16], state: usize, class: usize) -> Option<usize>
@@ -118,73 +129,74 @@ fn next(img: &[u16], state: usize, class: usize) -> Option<usize>
     Some(to - 1)
 }
 
-// One scan over these bytes, by whatever finds the class of a byte.
-#[tactic(auto, using(crate::proofs::Laws::scan_impossible, crate::proofs::Laws::scan_stuck, crate::proofs::Laws::scan_spent, crate::proofs::Laws::scan_on, crate::proofs::Laws::scan_over))]
-fn scan_by<F: Fn(u8) -> usize>(
-    img: &[u16],
-    class: F,
-    v: u64,
-    allowance: usize,
-    bytes: &[u8],
-) -> Found
-    requires ready { Ready img.now }
-    requires callable { F.IsAlwaysCallable class }
-    requires finds { (b c : ℕ) → b < 256 → F.post class b c → (c ≡ class_of img.now b) × (c < classes img.now) }
-    ensures value { stop_of result ≡ scan img.now v allowance bytes.now }
-    ensures some { IfOk result.matched (λ matched. IfSome matched (λ m. m.set ≡ 0 → ⊥)) }
-{
-    let mut state: usize = 0;
-    let mut moves: usize = 0;
-    let mut kept = Remembered { set: 0, length: 0 };
-    while image::poss(img, state) & v != 0 {
-        if bytes.len() <= moves {
-            return stopped(kept, moves);
-        }
-        let Some(to) = next(img, state, class(bytes[moves])) else {
-            return stopped(kept, moves);
-        };
-        if allowance <= moves {
-            return Found {
-                matched: Err(UsedUp),
-                moves,
-            };
-        }
-        state = to;
-        moves += 1;
-        kept = entered(img, v, state, moves, kept);
-    }
-    stopped(kept, moves)
-}
-
 // One scan over the rest of the text, by an index of the ranges, which is filled first: for a long one.
+#[tactic(auto, using(crate::proofs::Laws::scan_impossible, crate::proofs::Laws::scan_stuck, crate::proofs::Laws::scan_spent, crate::proofs::Laws::scan_on, crate::proofs::Laws::scan_over))]
 fn long_scan(img: &[u16], v: u64, allowance: usize, bytes: &[u8]) -> Found
     requires { Ready img.now }
     ensures value { stop_of result ≡ scan img.now v allowance bytes.now }
     ensures some { IfOk result.matched (λ matched. IfSome matched (λ m. m.set ≡ 0 → ⊥)) }
 {
     let index = index::index_of(img);
-    scan_by(
-        img,
-        |byte| index::class_by(img, &index, byte),
-        v,
-        allowance,
-        bytes,
-    )
+    let mut state: usize = 0;
+    let mut moves: usize = 0;
+    let mut last = Remembered { set: 0, length: 0 };
+    while image::poss(img, state) & v != 0 {
+        if bytes.len() <= moves {
+            return stopped(last, moves);
+        }
+        let Some(to) = next(img, state, index::class_by(img, &index, bytes[moves])) else {
+            return stopped(last, moves);
+        };
+        if allowance <= moves {
+            return used_up(moves);
+        }
+        state = to;
+        moves += 1;
+        last = entered(img, v, state, moves, last);
+    }
+    stopped(last, moves)
 }
 
-// One scan over the rest of the text. It goes by the ranges themselves, and where it turns out to be long it begins again with an index of them.
-// Inner: its callers have tested the shape.
+// After n moves, at the end of the text or of what is scanned without an index: there the scan begins again with one.
+fn beyond(img: &[u16], v: u64, allowance: usize, bytes: &[u8], n: usize, kept: Remembered) -> Found
+    requires ready { Ready img.now }
+    requires none { kept.set ≡ 0 → kept.length ≡ 0 }
+    ensures before_the_end { n < length bytes.now → stop_of result ≡ scan img.now v allowance bytes.now }
+    ensures at_the_end { length bytes.now ≤ n → stop_of result ≡ stopped kept n }
+    ensures some { IfOk result.matched (λ matched. IfSome matched (λ m. m.set ≡ 0 → ⊥)) }
+{
+    if n < bytes.len() {
+        return long_scan(img, v, allowance, bytes);
+    }
+    stopped(kept, n)
+}
+
+// One scan over the rest of the text. Inner: its callers have tested the shape.
+#[tactic(auto, using(crate::proofs::Laws::scan_impossible, crate::proofs::Laws::scan_stuck, crate::proofs::Laws::scan_spent, crate::proofs::Laws::scan_on))]
 pub fn one_scan(img: &[u16], v: u64, allowance: usize, bytes: &[u8]) -> Found
     requires { Ready img.now }
     ensures value { stop_of result ≡ scan img.now v allowance bytes.now }
     ensures some { IfOk result.matched (λ matched. IfSome matched (λ m. m.set ≡ 0 → ⊥)) }
 {
-    let near = &bytes[..bytes.len().min(LONG)];
-    let found = scan_by(img, |byte| classes::class_of(img, byte), v, allowance, near);
-    if bytes.len() <= LONG || found.moves < LONG {
-        return found;
+    let near = bytes.len().min(LONG);
+    let mut q: usize = 0;
+    let mut n: usize = 0;
+    let mut kept = Remembered { set: 0, length: 0 };
+    while image::poss(img, q) & v != 0 {
+        if near <= n {
+            return beyond(img, v, allowance, bytes, n, kept);
+        }
+        let Some(to) = next(img, q, classes::class_of(img, bytes[n])) else {
+            return stopped(kept, n);
+        };
+        if allowance <= n {
+            return used_up(n);
+        }
+        q = to;
+        n += 1;
+        kept = entered(img, v, q, n, kept);
     }
-    long_scan(img, v, allowance, bytes)
+    stopped(kept, n)
 }
 
 // One scan over the rest of the text, with an index from the start where it may be a long one.
