@@ -1,41 +1,47 @@
--- The turns of a row of cells, over plain variables.
-use mathlib.Core.Path.{◌≡◌, sym, ◌∙◌}
-use mathlib.Core.Bool.{Bool, true, false}
-use mathlib.Core.List.{List, [], ◌∷◌, ◌++◌}
-use Prim.Native.Nat.{ℕ, ◌+◌, ◌-◌, ◌<◌, ◌≤◌}
+-- Words 0 behind the words so far, and the turns of a row of cells, over plain variables.
+use mathlib.Core.Path.{◌≡◌, refl, sym, ap, ◌∙◌}
+use mathlib.Core.Bool.{Bool, true}
+use mathlib.Core.List.{List, [], ◌∷◌, ◌++◌, append_assoc}
+use Prim.Native.Nat.{ℕ, zero, suc, ◌+◌, ◌-◌, ◌≤◌}
 use native.Mathlib.Omega.{arith}
-use lib.ListN.{length, take, drop, set}
+use borrow.Rule.Slice.PartMut.{put_mid}
+use lib.ListN.{length, take}
+use lib.Seq.{take_all}
+use Rattle.std.specs.Prelude.{replicate}
+use Rattle.std.proofs.lemmas.Slice.{take-put_mid}
 use Rattle.text.specs.Form.{newline}
-use Rattle.text.specs.Reader.{Line, read_cells, zeros}
+use Rattle.text.specs.Reader.{expect, read_cells, zeros}
 use Rattle.text.proofs.Cells.{cells_end}
-use Rattle.fields.specs.Steps.{Placed}
-use Rattle.fields.proofs.PlaceLaws.{placed_took, stored_len}
-use Rattle.onecell.specs.declared.Cell.{Cell}
-use Rattle.onecell.specs.Steps.{NextCell}
+use Rattle.text.proofs.Lines.{expect_told}
+use Rattle.fields.specs.Steps.{Reads}
 
-pub code_put : (img img' : List ℕ) (words gap code : ℕ) → words + gap < length img → length img' ≡ length img → take (words + gap) img' ≡ take words img ++ zeros gap
-    → take (words + (gap + 1)) (set img' (words + gap) code) ≡ (take words img ++ zeros gap) ++ (code ∷ [])
-code_put img img' words gap code h l t =
-    let z : words + (gap + 1) ≡ words + gap + 1 = omega arith in
-    rw (z, stored_len img' (words + gap) code (omega (arith, h, l)), t)
+-- ---- words 0
+zeros_are : (n : ℕ) → replicate n 0 ≡ zeros n
+unfolding zeros
+zeros_are zero = refl
+zeros_are (suc n) = ap (λ (l : List ℕ). 0 ∷ l) (zeros_are n)
 
-pub cells_begin : (n : ℕ) (img bytes : List ℕ) (words : ℕ) → read_cells true n 0 (take words img) bytes ≡ read_cells true (n - 0) 0 (take (words + 0) img) bytes
-cells_begin n img bytes words =
-    let x : n - 0 ≡ n = omega arith in
-    let y : words + 0 ≡ words = omega arith in
-    rw (x, y)
+zeros_length : (n : ℕ) → length (zeros n) ≡ n
+unfolding zeros
+zeros_length zero = refl
+zeros_length (suc n) = let z = zeros_length n in omega arith
 
-pub cells_done : (line : Line) (text img img' : List ℕ) (words n next p : ℕ) (first : Bool) → next ≤ n → p < length text → drop p text ≡ newline ∷ drop (p + 1) text
-    → take (words + next + (n - next)) img' ≡ take (words + next) img ++ zeros (n - next)
-    → line ≡ read_cells first (n - next) next (take (words + next) img) (drop p text) → Placed line text (take (words + n) img') (p + 1)
-cells_done line text img img' words n next p first l h d t e =
-    let x : words + next + (n - next) ≡ words + n = omega (arith, l) in
-    placed_took line text (take (words + n) img') (p + 1) (omega (arith, h))
-    (rw (← x, t) (sym (e ∙ rw d (cells_end first (n - next) next (take (words + next) img) (drop (p + 1) text)))))
+pub filled : (img ys : List ℕ) (words k n : ℕ) → words + n ≤ length img → ys ≡ replicate n 0
+    → take (words + n) (put_mid words k img ys) ≡ take words img ++ zeros n
+filled img ys words k n h e =
+    let z : ys ≡ zeros n = e ∙ zeros_are n in
+    rw z (take-put_mid words k img (zeros n) (words + n) (omega (arith, zeros_length n)) (omega arith))
 
-pub cells_on : (text bytes img img' : List ℕ) (words n next : ℕ) (first : Bool) (c : Cell) → NextCell first bytes text next n c → c.at ≤ length text
-    → take (words + next + (c.column - next + 1)) img' ≡ (take (words + next) img ++ zeros (c.column - next)) ++ (c.code ∷ [])
-    → read_cells first (n - next) next (take (words + next) img) bytes ≡ read_cells false (n - (c.column + 1)) (c.column + 1) (take (words + (c.column + 1)) img') (drop c.at text)
-cells_on text bytes img img' words n next first c q h t =
-    let x : words + next + (c.column - next + 1) ≡ words + (c.column + 1) = omega (arith, q.rises h) in
-    q.some h (take (words + next) img) ∙ rw (← t, x)
+-- ---- a row of cells
+-- The columns that are left, from where a row stands, give what all of them give: there the line ends.
+pub cells_done : (bytes left row : List ℕ) (n next : ℕ) (first : Bool)
+    → ((w : List ℕ) → read_cells true n 0 w bytes ≡ read_cells first (n - next) next (w ++ take next row) left)
+    → (row' rest : List ℕ) → next ≤ n → length row' ≡ n → length left ≤ length bytes → Reads (expect (newline ∷ [])) left [] rest
+    → take (next + (n - next)) row' ≡ take next row ++ zeros (n - next) → Reads (read_cells true n 0) bytes row' rest
+cells_done bytes left row n next first same row' rest l k i q t =
+    let e : left ≡ newline ∷ rest = sym (expect_told (newline ∷ []) [] left [] rest (q.line [])).1 in
+    let x : take (next + (n - next)) row' ≡ row' = take_all (next + (n - next)) row' (omega arith) in
+    record {
+      line = λ w. same w ∙ rw (e, ← x, t, ← append_assoc w (take next row) (zeros (n - next))) (cells_end first (n - next) next (w ++ take next row) rest);
+      within = omega (arith, q.within, i);
+    }

@@ -1,26 +1,23 @@
-// Reading the cells of a row in form 2: what stands behind a place of the text becomes words of an image. A row gives the place behind it,
-// and a place behind the text where it is wrong.
+// Reading the cells of a row in form 2: what stands at the front of the bytes that are left becomes the words of the row. A right row gives
+// the bytes behind it.
 #![tactic(auto)]
 
-ghost use Rattle.std.specs.Prelude.{◌≡◌, true, [], ◌∷◌, ◌++◌, ◌+◌, ◌<◌, ◌≤◌, length, take, drop};
+ghost use Rattle.std.specs.Prelude.{◌≡◌, true, [], ◌∷◌, ◌++◌, ◌+◌, ◌<◌, ◌≤◌, MatchOption, length, take};
 ghost use Rattle.pack.specs.Image.{largest_image};
 ghost use Rattle.text.specs.Reader.{read_cells, zeros};
-ghost use Rattle.fields.specs.Steps.{Placed};
+ghost use Rattle.fields.specs.Steps.{IsWrong, Reads};
 
 use fields::stands;
 use onecell::next_cell;
 use text::NEWLINE;
 
 // So many words 0 behind the words so far.
+#[tactic(auto, using(crate::proofs::TurnLaws::filled))]
 pub fn pad(img: &mut [u16], words: usize, n: usize)
     requires { words + n ≤ length img.old }
     ensures { take (words + n) img.new ≡ take words img.old ++ zeros n }
 {
-    let mut i: usize = 0;
-    while i < n {
-        img[words + i] = 0;
-        i += 1;
-    }
+    img[words..words + n].fill(0);
 }
 
 // A code behind so many words 0.
@@ -32,28 +29,24 @@ fn put_code(img: &mut [u16], words: usize, gap: usize, code: u16)
     img[words + gap] = code;
 }
 
-// So many cells in form 2.
-pub fn read_cells(text: &[u8], img: &mut [u16], at: usize, words: usize, n: usize) -> usize
-    requires { (at ≤ length text.now) × ((words + n ≤ length img.old) × (n ≤ largest_image)) }
-    ensures { Placed (read_cells true n 0 (take words img.old) (drop at text.now)) text.now (take (words + n) img.new) result }
+// All cells of a row in form 2.
+pub fn read_cells<'t>(bytes: &'t [u8], row: &mut [u16]) -> Option<&'t [u8]>
+    requires { length row.old ≤ largest_image }
+    ensures { MatchOption result (IsWrong (read_cells true (length row.old) 0) bytes.now) (λ r. Reads (read_cells true (length row.old) 0) bytes.now row.new r.now) }
 {
-    let mut p = at;
+    let n = row.len();
+    let mut left = bytes;
     let mut next: usize = 0;
     let mut first = true;
-    loop {
-        if stands(text, p, NEWLINE) {
-            pad(img, words + next, n - next);
-            return p + 1;
+    'columns: loop {
+        if let Some(rest) = stands(left, NEWLINE) {
+            pad(row, next, n - next);
+            return Some(rest);
         }
-        let c = next_cell(text, p, first, next, n);
-        let behind = c.at;
-        let column = c.column;
-        if text.len() < behind {
-            return behind;
-        }
-        put_code(img, words + next, column - next, c.code);
-        p = behind;
-        next = column + 1;
+        let (cell, rest) = next_cell(left, first, next, n)?;
+        put_code(row, next, cell.column - next, cell.code);
+        left = rest;
+        next = cell.column + 1;
         first = false;
     }
 }

@@ -1,80 +1,113 @@
--- The turns of the loop that reads a number, over plain variables: what the tests say of the definitions.
-use mathlib.Core.Path.{◌≡◌, refl, ◌∙◌}
+-- The turns of the loop that reads a number, and what its tests say of the definitions, over plain variables.
+use mathlib.Core.Path.{◌≡◌, refl, ap}
 use mathlib.Core.Bool.{Bool, true, false, ◌&&◌}
-use mathlib.Core.List.{List}
-use Prim.Native.Nat.{ℕ, suc, ◌+◌, ◌*◌, ◌-◌, ◌<◌, ◌≤◌}
+use mathlib.Core.List.{List, ◌∷◌}
+use Prim.Native.Nat.{ℕ, zero, suc, ◌+◌, ◌*◌, ◌-◌, ◌<◌, ◌≤◌}
+use native.Mathlib.Numerals.{add-one}
 use native.Mathlib.Omega.{arith}
-use lib.ListN.{length, get_or, drop, drop_of_length-le}
-use lib.Seq.{drop-cons, get_or-drop}
-use borrow.Author.Tests.{le-leb, lt-leb, eq-eqb, ne_eqb}
+use lib.Dec.{eqb, leb}
+use lib.ListN.{length, get_or, take, drop, drop_of_length-le, length-drop}
+use lib.Seq.{drop-cons, take_all}
+use borrow.Author.Tests.{le-leb, lt-leb}
+use Rattle.std.specs.Char.{is_ascii_digit}
+use Rattle.std.specs.Prelude.{Option, Some, None}
 use Rattle.text.specs.declared.Field.{Field}
 use Rattle.text.specs.Decimal.{is_digit, digits_from, number_in, read_number}
 use Rattle.text.proofs.Decimal.{field}
+use Rattle.fields.specs.Steps.{taken}
 
--- A test that said no said not yes.
-pub said_no : {A : Type 0} → false ≡ true → A
-said_no e = let z : ◌≡◌ {A = ℕ} 0 1 = cc in absurd (omega arith)
+digit_is : (b : ℕ) → is_digit b ≡ is_ascii_digit b
+unfolding is_digit
+digit_is b = refl
 
 -- ---- decimal digits
-module _ (limit : ℕ) (s : List ℕ) (at v k : ℕ) where
-  pub digits_end : length s ≤ at + k → digits_from limit (drop (at + k) s) v k ≡ field v k
+module _ (limit : ℕ) (s : List ℕ) (v k : ℕ) where
+  pub digits_end : length s ≤ k → digits_from limit (drop k s) v k ≡ record { value = v; used = k }
   unfolding digits_from
   digits_end h = rw (drop_of_length-le s h)
 
-  module _ (h : at + k < length s) where
-    pub digits_low : get_or s (at + k) 0 < 48 → digits_from limit (drop (at + k) s) v k ≡ field v k
-    unfolding digits_from is_digit
-    digits_low p = rw (drop-cons s (at + k) 0 h) (simp (digits_from, is_digit, ◌&&◌, lt-leb _ _ p))
+  module _ (h : k < length s) where
+    pub digits_stop : is_ascii_digit (get_or s k 0) ≡ false → digits_from limit (drop k s) v k ≡ record { value = v; used = k }
+    unfolding digits_from
+    digits_stop p = rw (drop-cons s k 0 h) (simp (digits_from, digit_is, p))
 
-    pub digits_high : 48 ≤ get_or s (at + k) 0 → 57 < get_or s (at + k) 0 → digits_from limit (drop (at + k) s) v k ≡ field v k
-    unfolding digits_from is_digit
-    digits_high p q = rw (drop-cons s (at + k) 0 h) (simp (digits_from, is_digit, ◌&&◌, le-leb _ _ p, lt-leb _ _ q))
+    pub digits_much : limit < v → digits_from limit (drop k s) v k ≡ record { value = v; used = k }
+    unfolding digits_from
+    digits_much r = rw (drop-cons s k 0 h) (go (is_digit (get_or s k 0)) refl)
+      where
+        go : (x : Bool) → is_digit (get_or s k 0) ≡ x → digits_from limit (get_or s k 0 ∷ drop (suc k) s) v k ≡ record { value = v; used = k }
+        go true e = simp (digits_from, e, lt-leb _ _ r)
+        go false e = simp (digits_from, e)
 
-    pub digits_much : 48 ≤ get_or s (at + k) 0 → get_or s (at + k) 0 ≤ 57 → limit < v → digits_from limit (drop (at + k) s) v k ≡ field v k
-    unfolding digits_from is_digit
-    digits_much p q r = rw (drop-cons s (at + k) 0 h) (simp (digits_from, is_digit, ◌&&◌, le-leb _ _ p, le-leb _ _ q, lt-leb _ _ r))
-
-    pub digits_on : (d : ℕ) → 48 ≤ get_or s (at + k) 0 → get_or s (at + k) 0 ≤ 57 → v ≤ limit → d + 48 ≡ get_or s (at + k) 0
-        → digits_from limit (drop (at + k) s) v k ≡ digits_from limit (drop (at + (k + 1)) s) (v * 10 + d) (k + 1)
-    unfolding digits_from is_digit
-    digits_on d p q r e =
-        let z : get_or s (at + k) 0 - 48 ≡ d = omega arith in
-        let y : suc (at + k) ≡ at + (k + 1) = omega arith in
-        rw (drop-cons s (at + k) 0 h, y) (simp (digits_from, is_digit, ◌&&◌, le-leb _ _ p, le-leb _ _ q, le-leb _ _ r, z))
-
--- One digit, and then a byte that is none.
-pub one_digit : (limit : ℕ) (s : List ℕ) (p : ℕ) → p + 2 ≤ length s → 48 ≤ get_or s p 0 → get_or s p 0 ≤ 57 → get_or s (p + 1) 0 < 48
-    → digits_from limit (drop p s) 0 0 ≡ field (get_or s p 0 - 48) 1
-one_digit limit s p h l m n =
-    let x : p + 0 ≡ p = omega arith in
-    let low : 48 ≤ get_or s (p + 0) 0 = rw x l in
-    let most : get_or s (p + 0) 0 ≤ 57 = rw x m in
-    let z : 0 * 10 + (get_or s p 0 - 48) ≡ get_or s p 0 - 48 = omega arith in
-    let on : digits_from limit (drop p s) 0 0 ≡ digits_from limit (drop (p + 1) s) (get_or s p 0 - 48) 1 =
-    rw (x, z) at (digits_on limit s p 0 0 (omega arith) (get_or s (p + 0) 0 - 48) low most (omega arith) (omega (arith, low))) in
-    on ∙ digits_low limit s p (get_or s p 0 - 48) 1 (omega arith) n
+    pub digits_on : is_ascii_digit (get_or s k 0) ≡ true → v ≤ limit
+        → digits_from limit (drop k s) v k ≡ digits_from limit (drop (k + 1) s) (v * 10 + (get_or s k 0 - 48)) (k + 1)
+    unfolding digits_from
+    digits_on p r = rw (drop-cons s k 0 h, ← add-one k) (simp (digits_from, digit_is, p, le-leb _ _ r))
 
 -- ---- a number
-both_false : (a : Bool) → (a && false) ≡ false
-both_false true = refl
-both_false false = refl
+pub rest_is : (bytes : List ℕ) (k : ℕ) → take (length bytes - k) (drop k bytes) ≡ drop k bytes
+rest_is bytes k = take_all (length bytes - k) (drop k bytes) (omega (arith, length-drop k bytes))
 
-module _ (limit : ℕ) (bytes : List ℕ) (f : Field) (e : f ≡ digits_from limit bytes 0 0) where
-  pub number_much : limit < f.value → field 0 0 ≡ read_number limit bytes
+pub no_field : (f : Field) (bytes : List ℕ) → f.used ≡ 0 → taken f bytes ≡ None
+unfolding taken
+no_field f bytes e = simp (taken, e)
+
+pub some_field : (f : Field) (bytes : List ℕ) → (f.used ≡ 0 → ⊥) → taken f bytes ≡ Some (f.value, drop f.used bytes)
+unfolding taken
+some_field f bytes z = go f.used refl
+  where
+    go : (k : ℕ) → f.used ≡ k → taken f bytes ≡ Some (f.value, drop f.used bytes)
+    go zero e = absurd (z e)
+    go (suc k) e = simp (taken, e)
+
+pub taken_none : (f : Field) (bytes : List ℕ) → taken f bytes ≡ None → f.used ≡ 0
+unfolding taken
+taken_none f bytes e = go f.used refl
+  where
+    go : (k : ℕ) → f.used ≡ k → f.used ≡ 0
+    go zero p = p
+    go (suc k) p = let z : ◌≡◌ {A = Option (ℕ × List ℕ)} (Some (f.value, drop (suc k) bytes)) None = simp (taken, p) at e in cc
+
+pub taken_some : (f : Field) (bytes : List ℕ) (v : ℕ) (rest : List ℕ) → taken f bytes ≡ Some (v, rest)
+    → (f.used ≡ 0 → ⊥) × (f.value ≡ v) × (drop f.used bytes ≡ rest)
+unfolding taken
+taken_some f bytes v rest e = go f.used refl
+  where
+    go : (k : ℕ) → f.used ≡ k → (f.used ≡ 0 → ⊥) × (f.value ≡ v) × (drop f.used bytes ≡ rest)
+    go zero p = let z : ◌≡◌ {A = Option (ℕ × List ℕ)} None (Some (v, rest)) = simp (taken, p) at e in cc
+    go (suc k) p =
+        let z : ◌≡◌ {A = Option (ℕ × List ℕ)} (Some (f.value, drop (suc k) bytes)) (Some (v, rest)) = simp (taken, p) at e in
+        let y : ◌≡◌ {A = ℕ × List ℕ} (f.value, drop (suc k) bytes) (v, rest) = cc in
+        (λ x. absurd (omega (arith, x, p)), ap (λ (r : ℕ × List ℕ). r.0) y, rw p (ap (λ (r : ℕ × List ℕ). r.1) y))
+
+module _ (limit : ℕ) (bytes : List ℕ) (v k : ℕ) (e : digits_from limit bytes 0 0 ≡ record { value = v; used = k }) where
+  pub number_much : limit < v → taken (read_number limit bytes) bytes ≡ None
   unfolding read_number number_in
-  number_much h = simp (read_number, number_in, ← e, lt-leb _ _ h)
+  number_much h = no_field _ bytes (simp (read_number, number_in, e, lt-leb _ _ h))
 
-  pub number_short : f.value ≤ limit → f.used < 2 → field f.value f.used ≡ read_number limit bytes
+  pub number_zero : (eqb (get_or bytes 0 0) 48 && leb 2 k) ≡ true → taken (read_number limit bytes) bytes ≡ None
   unfolding read_number number_in
-  number_short h l = simp (read_number, number_in, ← e, le-leb _ _ h, lt-leb _ _ l, both_false)
+  number_zero z = go (leb v limit) refl
+    where
+      go : (x : Bool) → leb v limit ≡ x → taken (read_number limit bytes) bytes ≡ None
+      go true p = no_field _ bytes (simp (read_number, number_in, e, p, z))
+      go false p = no_field _ bytes (simp (read_number, number_in, e, p))
 
-  pub number_zero : f.value ≤ limit → 2 ≤ f.used → get_or bytes 0 0 ≡ 48 → field 0 0 ≡ read_number limit bytes
+  pub number_is : v ≤ limit → (eqb (get_or bytes 0 0) 48 && leb 2 k) ≡ false → read_number limit bytes ≡ field v k
   unfolding read_number number_in
-  number_zero h l z = simp (read_number, number_in, ← e, le-leb _ _ h, le-leb _ _ l, eq-eqb _ _ z)
+  number_is h z = simp (read_number, number_in, e, le-leb _ _ h, z)
 
-  pub number_long : f.value ≤ limit → 2 ≤ f.used → (get_or bytes 0 0 ≡ 48 → ⊥) → field f.value f.used ≡ read_number limit bytes
+  pub number_none : k ≡ 0 → taken (read_number limit bytes) bytes ≡ None
   unfolding read_number number_in
-  number_long h l z = simp (read_number, number_in, ← e, le-leb _ _ h, le-leb _ _ l, ne_eqb _ _ z)
+  number_none z = go (leb v limit) refl (eqb (get_or bytes 0 0) 48 && leb 2 k) refl
+    where
+      go : (x : Bool) → leb v limit ≡ x → (y : Bool) → (eqb (get_or bytes 0 0) 48 && leb 2 k) ≡ y → taken (read_number limit bytes) bytes ≡ None
+      go true p true q = no_field _ bytes (simp (read_number, number_in, e, p, q))
+      go true p false q = no_field _ bytes (simp (read_number, number_in, e, p, q) z)
+      go false p y q = no_field _ bytes (simp (read_number, number_in, e, p))
 
-pub front_at : (s : List ℕ) (at : ℕ) → get_or (drop at s) 0 0 ≡ get_or s at 0
-front_at s at = let z : at + 0 ≡ at = omega arith in get_or-drop at s 0 0 ∙ rw z
+  pub number_some : (k ≡ 0 → ⊥) → v ≤ limit → (eqb (get_or bytes 0 0) 48 && leb 2 k) ≡ false
+      → taken (read_number limit bytes) bytes ≡ Some (v, take (length bytes - k) (drop k bytes))
+  number_some n h z =
+      let i = number_is h z in
+      rw (rest_is bytes k, i) (some_field (field v k) bytes n)

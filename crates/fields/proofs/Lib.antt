@@ -1,2 +1,2 @@
 pub mod FieldLaws
-pub mod PlaceLaws
+pub mod PartLaws

@@ -1,19 +1,24 @@
--- What the parts of a line promise each other. The program holds a place in the text where the definitions hold the bytes that are left.
-use Rattle.std.specs.Prelude.{◌≡◌, Bool, true, false, List, ℕ, ◌+◌, ◌≤◌, leb, length, get_or, drop}
+-- What the parts of a line promise each other. The program gives a value or words and the bytes behind them where the definitions hold the
+-- words so far and the bytes that are left.
+use Rattle.std.specs.Prelude.{◌≡◌, List, ◌∷◌, ◌++◌, ℕ, zero, suc, ◌+◌, ◌≤◌, length, drop, Option, Some, None}
+use Rattle.text.specs.declared.Field.{Field}
 use Rattle.text.specs.Reader.{Line}
 use Rattle.text.specs.Reader.Line.{wrong, took}
 
--- One digit stands at a place of the text, and behind it this byte.
-pub record OneDigit (text : List ℕ) (at next : ℕ) : Type 0 where
-  pub inside : at + 2 ≤ length text
-  pub least : 48 ≤ get_or text at 0
-  pub most : get_or text at 0 ≤ 57
-  pub behind : get_or text (at + 1) 0 ≡ next
+-- The value of a field at the front of some bytes, and the bytes behind it.
+unfoldable pub taken : Field → List ℕ → Option (ℕ × List ℕ)
+taken field bytes = elim field.used [ zero ↦ None | suc k ↦ Some (field.value, drop field.used bytes) ]
 
--- A part of a line that is right gives these words and this rest.
-unfoldable pub whether : Bool → List ℕ → List ℕ → Line
-whether right words rest = elim right [ false ↦ wrong | true ↦ took words rest ]
+-- One digit of this value stands at the front, this byte behind it, and then the rest.
+pub record OneDigit (bytes : List ℕ) (next value : ℕ) (rest : List ℕ) : Type 0 where
+  pub digit : value ≤ 9
+  pub stands : bytes ≡ (48 + value) ∷ next ∷ rest
 
--- After a part of a line a place stands for what was read: with these words, or it is wrong where the place lies behind the text.
-pub record Placed (line : Line) (text words : List ℕ) (at : ℕ) : Type 0 where
-  pub means : whether (leb at (length text)) words (drop at text) ≡ line
+-- A part of a line is wrong at the front of these bytes, whatever the words before it are.
+pub record IsWrong (part : List ℕ → List ℕ → Line) (bytes : List ℕ) : Type 0 where
+  pub line : (before : List ℕ) → part before bytes ≡ wrong
+
+-- A part of a line is right: it gives these words, behind those before it, and this rest.
+pub record Reads (part : List ℕ → List ℕ → Line) (bytes words rest : List ℕ) : Type 0 where
+  pub line : (before : List ℕ) → part before bytes ≡ took (before ++ words) rest
+  pub within : length rest ≤ length bytes

@@ -1,93 +1,76 @@
-// Reading a number of a line, at a place of the text, and a byte that stands next.
+// Reading a number at the front of the bytes that are left, and a byte that stands there. What is right gives the bytes behind it.
 #![tactic(auto)]
 
-ghost use Rattle.std.specs.Prelude.{◌≡◌, true, List, [], ◌∷◌, ℕ, ◌+◌, ◌<◌, ◌≤◌, length, drop};
+ghost use Rattle.std.specs.Prelude.{◌≡◌, ◌&&◌, nat_eq, nat_le, slice_index, [], ◌∷◌, ◌+◌, ◌<◌, ◌≤◌, MatchOption, IfSome, Some, None, length, drop};
 ghost use Rattle.text.specs.Decimal.{digits_from, read_number};
 ghost use Rattle.text.specs.Reader.{expect};
-ghost use Rattle.fields.specs.Steps.{OneDigit, whether};
+ghost use Rattle.fields.specs.Steps.{IsWrong, Reads, OneDigit, taken};
 
-use text::Field;
-
-// The value of a decimal digit.
-fn digit(b: u8) -> u64
-    requires { 48 ≤ b }
-    ensures { result + 48 ≡ b }
+// The decimal digits at the front as a number, and how many they are; no further once their number is above the limit.
+#[tactic(auto, using(crate::proofs::FieldLaws::digits_stop, crate::proofs::FieldLaws::digits_much, crate::proofs::FieldLaws::digits_on, crate::proofs::FieldLaws::digits_end))]
+fn digits(bytes: &[u8], limit: u32) -> (u64, usize)
+    ensures value { digits_from limit bytes.now 0 0 ≡ record { value = result.0; used = result.1 } }
+    ensures used_in_bounds { result.1 ≤ length bytes.now }
 {
-    (b - 48) as u64
+    let mut value: u64 = 0;
+    for (used, b) in bytes.iter().enumerate() {
+        if !b.is_ascii_digit() {
+            return (value, used);
+        }
+        if u64::from(limit) < value {
+            return (value, used);
+        }
+        value = value * 10 + u64::from(*b - b'0');
+    }
+    (value, bytes.len())
 }
 
-// The decimal digits from a place on; no further once their number is above the limit.
-fn digits(text: &[u8], at: usize, limit: u32) -> Field
-    requires { at ≤ length text.now }
-    ensures value { result ≡ digits_from limit (drop at text.now) 0 0 }
-    ensures used_in_bounds { at + result.used ≤ length text.now }
+// Whether a 0 stands in front of another digit.
+fn leading_zero(bytes: &[u8], used: usize) -> bool
+    requires { used ≤ length bytes.now }
+    ensures { result ≡ (nat_eq (slice_index bytes.now 0) 48 && nat_le 2 used) }
 {
-    let most = limit as u64;
-    let mut value: u64 = 0;
-    let mut used: usize = 0;
-    while at + used < text.len() {
-        let b = text[at + used];
-        if b < 48 {
-            return Field { value, used };
-        }
-        if 57 < b {
-            return Field { value, used };
-        }
-        if most < value {
-            return Field { value, used };
-        }
-        value = value * 10 + digit(b);
-        used += 1;
-    }
-    Field { value, used }
+    1 < used && bytes[0] == b'0'
 }
 
 // A number: the limit at the most, and no 0 in front of another digit.
-pub fn read_number(text: &[u8], at: usize, limit: u32) -> Field
-    requires { at ≤ length text.now }
-    ensures value { result ≡ read_number limit (drop at text.now) }
-    ensures used_in_bounds { at + result.used ≤ length text.now }
+pub fn read_number(bytes: &[u8], limit: u32) -> Option<(u32, &[u8])>
+    ensures value { MatchOption result (taken (read_number limit bytes.now) bytes.now ≡ None) (λ r. taken (read_number limit bytes.now) bytes.now ≡ Some (r.0, r.1.now)) }
+    ensures used_in_bounds { IfSome result (λ r. length r.1.now + (read_number limit bytes.now).used ≡ length bytes.now) }
+    ensures limited { IfSome result (λ r. r.0 ≤ limit) }
 {
-    let f = digits(text, at, limit);
-    let value = f.value;
-    let used = f.used;
-    let most = limit as u64;
-    if most < value {
-        return Field { value: 0, used: 0 };
+    let (value, used) = digits(bytes, limit);
+    if used == 0 {
+        return None;
     }
-    if used < 2 {
-        return Field { value, used };
+    if u64::from(limit) < value {
+        return None;
     }
-    if text[at] == 48 {
-        return Field { value: 0, used: 0 };
+    if leading_zero(bytes, used) {
+        return None;
     }
-    Field { value, used }
+    Some((value as u32, &bytes[used..]))
 }
 
-// Whether one digit stands next, and behind it this byte: the most common number, which a row reads by itself.
-pub fn one_digit(text: &[u8], at: usize, next: u8) -> bool
-    requires { at ≤ length text.now }
-    ensures { result ≡ true → OneDigit text.now at next }
+// One digit, and behind it this byte: the most common number, which a row reads by itself.
+pub fn one_digit(bytes: &[u8], next: u8) -> Option<(u16, &[u8])>
+    ensures { IfSome result (λ r. OneDigit bytes.now next r.0 r.1.now) }
 {
-    if text.len() - at < 2 {
-        return false;
+    match bytes {
+        [digit @ b'0'..=b'9', behind, rest @ ..] if *behind == next => {
+            Some((u16::from(*digit - b'0'), rest))
+        }
+        _ => None,
     }
-    if text[at] < 48 {
-        return false;
-    }
-    if 57 < text[at] {
-        return false;
-    }
-    text[at + 1] == next
 }
 
-// Whether this byte stands next.
-pub fn stands(text: &[u8], at: usize, next: u8) -> bool
-    ensures expected { (words : List ℕ) → whether result words (drop (at + 1) text.now) ≡ expect (next ∷ []) words (drop at text.now) }
-    ensures at_in_bounds { result ≡ true → at < length text.now }
+// This byte.
+#[tactic(auto, using(crate::proofs::PartLaws::stands_short))]
+pub fn stands(bytes: &[u8], next: u8) -> Option<&[u8]>
+    ensures { MatchOption result (IsWrong (expect (next ∷ [])) bytes.now) (λ r. Reads (expect (next ∷ [])) bytes.now [] r.now) }
 {
-    if text.len() <= at {
-        return false; // no byte is left
-    }
-    text[at] == next
+    let Some((first, rest)) = bytes.split_first() else {
+        return None; // no byte is left
+    };
+    if *first == next { Some(rest) } else { None }
 }

@@ -1,13 +1,13 @@
 -- A cell of a row in form 2: what its tests say of the definitions, over plain variables.
 use mathlib.Core.Path.{◌≡◌, refl, sym, ap, ◌∙◌}
 use mathlib.Core.Bool.{Bool, true, false}
-use mathlib.Core.List.{List, [], ◌∷◌, ◌++◌}
+use mathlib.Core.List.{List, [], ◌∷◌, ◌++◌, append-nil}
 use Prim.Native.Nat.{ℕ, suc, ◌+◌, ◌-◌, ◌<◌, ◌≤◌}
 use native.Mathlib.Omega.{arith}
 use lib.Dec.{eqb}
-use lib.ListN.{length, drop}
-use lib.Seq.{drop-drop}
+use lib.ListN.{length, length-append}
 use borrow.Author.Tests.{eqb-true, eqb-false}
+use Rattle.std.specs.Prelude.{Some, None}
 use Rattle.pack.specs.Image.{largest_image}
 use Rattle.text.specs.declared.Field.{Field}
 use Rattle.text.specs.Decimal.{read_number, decimal}
@@ -16,94 +16,92 @@ use Rattle.text.specs.Form.{newline, comma, colon, before}
 use Rattle.text.specs.Reader.{then_read, expect, read_code, read_cell, read_cells, zeros}
 use Rattle.text.specs.Reader.Line.{wrong}
 use Rattle.text.proofs.Cells.{code_none, code_some, cell_other, cell_here, cell_no_comma, cells_some, cells_skip, cells_over}
-use Rattle.text.proofs.Decimal.{field, decimal_some}
+use Rattle.text.proofs.Decimal.{field, decimal_some, number_unread}
 use Rattle.text.proofs.Lines.{expect_told}
-use Rattle.fields.specs.Steps.{whether}
-use Rattle.onecell.specs.declared.Cell.{Cell}
+use Rattle.fields.specs.Steps.{IsWrong, Reads, taken}
+use Rattle.fields.proofs.FieldLaws.{taken_none, taken_some}
 use Rattle.onecell.specs.Steps.{NextCell}
 
--- A byte that stands next.
-module _ (text : List ℕ) (at c : ℕ) (right : Bool) (s : (w : List ℕ) → whether right w (drop (at + 1) text) ≡ expect (c ∷ []) w (drop at text)) where
-  pub stood : right ≡ true → drop at text ≡ c ∷ drop (at + 1) text
-  unfolding whether
-  stood r = sym (expect_told (c ∷ []) [] (drop at text) [] (drop (at + 1) text) (sym (s []) ∙ rw r)).1
+-- ---- what a cell stands for, where the line does not end
+module _ (first : Bool) (bytes : List ℕ) (least n : ℕ) (o : IsWrong (expect (newline ∷ [])) bytes) where
+  none_of : ((d : ℕ) → least ≤ d → d < n → (w : List ℕ) → read_cell first d w bytes ≡ wrong) → IsWrong (read_cells first (n - least) least) bytes
+  none_of z = record { line = λ w. cells_over first (n - least) least w bytes (λ j h v. z (least + j) (omega arith) (omega (arith, h)) v) o.line }
 
-  pub not_stood : right ≡ false → (w : List ℕ) → expect (c ∷ []) w (drop at text) ≡ wrong
-  unfolding whether
-  not_stood r w = sym (s w) ∙ rw r
+  -- A number stands behind what stands before a cell, or none.
+  module _ (s : List ℕ) (e : bytes ≡ before first ++ s) (m : n ≤ largest_image) where
+    other : (d : ℕ) → d < n → (read_number greatest_word s ≡ field d (length (decimal d)) → ⊥) → (w : List ℕ) → read_cell first d w bytes ≡ wrong
+    other d h z w = rw e (cell_other greatest_word d (omega (arith, h, m)) first w s z)
 
--- ---- what a cell stands for
-module _ (first : Bool) (bytes text : List ℕ) (least n : ℕ) where
-  pub next_none : (c : Cell) → c.at ≡ length text + 1 → ((w : List ℕ) → read_cells first (n - least) least w bytes ≡ wrong) → NextCell first bytes text least n c
-  next_none c e z = record {
-    none = λ h. z;
-    rises = λ h. absurd (omega (arith, e, h));
-    inside = λ h. absurd (omega (arith, e, h));
-    some = λ h w. absurd (omega (arith, e, h));
-  }
+    pub no_number : taken (read_number greatest_word s) s ≡ None → IsWrong (read_cells first (n - least) least) bytes
+    no_number t = let z = taken_none _ s t in none_of (λ d a b. other d b (λ p. decimal_some d (sym (ap (λ (x : Field). x.used) p) ∙ z)))
 
-  pub next_some : (column code at : ℕ) → at ≤ length text → least ≤ column → column < n
-      → ((w : List ℕ) → read_cells first (n - least) least w bytes ≡ read_cells false (n - (column + 1)) (column + 1) ((w ++ zeros (column - least)) ++ (code ∷ [])) (drop at text))
-      → NextCell first bytes text least n (record { column = column; code = code; at = at })
-  next_some column code at h l m z = record { none = λ k. absurd (omega (arith, h, k)); rises = λ k. l; inside = λ k. m; some = λ k. z }
+    module _ (v : ℕ) (rest : List ℕ) (t : taken (read_number greatest_word s) s ≡ Some (v, rest)) where
+      value_is : (read_number greatest_word s).value ≡ v
+      value_is = (taken_some _ s v rest t).1
 
-  -- The line does not end there.
-  module _ (o : (w : List ℕ) → expect (newline ∷ []) w bytes ≡ wrong) where
-    none_of : ((d : ℕ) → least ≤ d → d < n → (w : List ℕ) → read_cell first d w bytes ≡ wrong) → (w : List ℕ) → read_cells first (n - least) least w bytes ≡ wrong
-    none_of z w = cells_over first (n - least) least w bytes (λ j h v. z (least + j) (omega arith) (omega (arith, h)) v) o
+      differs : (d : ℕ) → (d ≡ v → ⊥) → read_number greatest_word s ≡ field d (length (decimal d)) → ⊥
+      differs d z p = z (sym (ap (λ (x : Field). x.value) p) ∙ value_is)
 
-    -- A number stands behind what stands before a cell, or none.
-    module _ (at : ℕ) (e : bytes ≡ before first ++ drop at text) (m : n ≤ largest_image) (f : Field) (g : f ≡ read_number greatest_word (drop at text)) where
-      other : (d : ℕ) → d < n → (f ≡ field d (length (decimal d)) → ⊥) → (w : List ℕ) → read_cell first d w bytes ≡ wrong
-      other d h z w = rw e (cell_other greatest_word d (omega (arith, h, m)) first w (drop at text) (λ p. z (g ∙ p)))
+      pub not_rising : v < least → IsWrong (read_cells first (n - least) least) bytes
+      not_rising h = none_of (λ d a b. other d b (differs d (λ p. omega (arith, p, a, h))))
 
-      pub no_number : f.used ≡ 0 → (w : List ℕ) → read_cells first (n - least) least w bytes ≡ wrong
-      no_number z = none_of (λ d a b. other d b (λ p. decimal_some d (sym (ap (λ (x : Field). x.used) p) ∙ z)))
-
-      pub not_rising : f.value < least → (w : List ℕ) → read_cells first (n - least) least w bytes ≡ wrong
-      not_rising h = none_of (λ d a b. other d b (λ p. omega (arith, ap (λ (x : Field). x.value) p, a, h)))
-
-      pub outside : n ≤ f.value → (w : List ℕ) → read_cells first (n - least) least w bytes ≡ wrong
-      outside h = none_of (λ d a b. other d b (λ p. omega (arith, ap (λ (x : Field). x.value) p, b, h)))
+      pub outside : n ≤ v → IsWrong (read_cells first (n - least) least) bytes
+      outside h = none_of (λ d a b. other d b (differs d (λ p. omega (arith, p, b, h))))
 
       -- Its column's cell is wrong, so all are.
-      this_wrong : ((w : List ℕ) → read_cell first f.value w bytes ≡ wrong) → (w : List ℕ) → read_cells first (n - least) least w bytes ≡ wrong
-      this_wrong z = none_of (λ d a b w. go d b w (eqb d f.value) refl)
+      this_wrong : ((w : List ℕ) → read_cell first v w bytes ≡ wrong) → IsWrong (read_cells first (n - least) least) bytes
+      this_wrong z = none_of (λ d a b w. go d b w (eqb d v) refl)
         where
-          go : (d : ℕ) → d < n → (w : List ℕ) → (x : Bool) → eqb d f.value ≡ x → read_cell first d w bytes ≡ wrong
-          go d b w true q = rw (eqb-true d f.value q) (z w)
-          go d b w false q = other d b (λ p. eqb-false d f.value q (sym (ap (λ (x : Field). x.value) p))) w
+          go : (d : ℕ) → d < n → (w : List ℕ) → (x : Bool) → eqb d v ≡ x → read_cell first d w bytes ≡ wrong
+          go d b w true q = rw (eqb-true d v q) (z w)
+          go d b w false q = other d b (differs d (eqb-false d v q)) w
 
-      module _ (u : f.used ≡ 0 → ⊥) (right : Bool) (s : (w : List ℕ) → whether right w (drop (at + f.used + 1) text) ≡ expect (colon ∷ []) w (drop (at + f.used) text)) where
-        this_cell : (w : List ℕ) → read_cell first f.value w bytes ≡ then_read (whether right w (drop (at + f.used + 1) text)) read_code
-        this_cell w = rw e (cell_here first w (drop at text) f g u ∙ rw (drop-drop f.used at text, s w))
+      this_cell : (w : List ℕ) → read_cell first v w bytes ≡ then_read (expect (colon ∷ []) w rest) read_code
+      this_cell w =
+          let f = taken_some _ s v rest t in
+          rw (e, ← f.1, ← f.2) (cell_here first w s (read_number greatest_word s) refl f.0)
 
-        pub no_colon : right ≡ false → (w : List ℕ) → read_cells first (n - least) least w bytes ≡ wrong
-        unfolding whether then_read
-        no_colon r = this_wrong (λ w. this_cell w ∙ rw r)
+      pub no_colon : IsWrong (expect (colon ∷ [])) rest → IsWrong (read_cells first (n - least) least) bytes
+      unfolding then_read
+      no_colon q = this_wrong (λ w. this_cell w ∙ rw (q.line w))
 
-        module _ (r : right ≡ true) (k : Field) (h : k ≡ read_number greatest_word (drop (at + f.used + 1) text)) where
-          this_code : (w : List ℕ) → read_cell first f.value w bytes ≡ read_code w (drop (at + f.used + 1) text)
-          unfolding whether then_read
-          this_code w = this_cell w ∙ rw r
+      module _ (u : List ℕ) (q : Reads (expect (colon ∷ [])) rest [] u) where
+        this_code : (w : List ℕ) → read_cell first v w bytes ≡ read_code w u
+        unfolding then_read
+        this_code w = this_cell w ∙ rw (q.line w, append-nil w)
 
-          pub no_code : k.value ≡ 0 → (w : List ℕ) → read_cells first (n - least) least w bytes ≡ wrong
-          no_code z = this_wrong (λ w. this_code w ∙ code_none w (drop (at + f.used + 1) text) k h z)
+        pub no_code : taken (read_number greatest_word u) u ≡ None → IsWrong (read_cells first (n - least) least) bytes
+        no_code k = this_wrong (λ w. this_code w ∙ code_none w u _ refl (number_unread greatest_word u (taken_none _ u k)))
 
-          pub cell_there : (k.value ≡ 0 → ⊥) → least ≤ f.value → f.value < n → (w : List ℕ)
-              → read_cells first (n - least) least w bytes
-              ≡ read_cells false (n - (f.value + 1)) (f.value + 1) ((w ++ zeros (f.value - least)) ++ (k.value ∷ [])) (drop (at + f.used + 1 + k.used) text)
-          cell_there z a b w =
-              let v = f.value in
+        module _ (c : ℕ) (rest' : List ℕ) (k : taken (read_number greatest_word u) u ≡ Some (c, rest')) where
+          pub zero_code : c ≡ 0 → IsWrong (read_cells first (n - least) least) bytes
+          zero_code z = this_wrong (λ w. this_code w ∙ code_none w u _ refl ((taken_some _ u c rest' k).1 ∙ z))
+
+          pub cell_there : (c ≡ 0 → ⊥) → least ≤ v → v < n → length rest' ≤ length bytes → NextCell first bytes least n (record { column = v; code = c }) rest'
+          cell_there z a b l =
+              let f = taken_some _ u c rest' k in
               let x : least + (v - least) ≡ v = omega (arith, a) in
-              let y : n - least - (v - least) ≡ suc (n - (v + 1)) = omega (arith, a, b) in
-              cells_skip (v - least) first (n - least) least w bytes (omega (arith, a, b))
-              (λ j q u. other (least + j) (omega (arith, q, b)) (λ p. omega (arith, ap (λ (x : Field). x.value) p, q)) u)
-              ∙ rw (x, y)
-              (cells_some first (n - (v + 1)) v (w ++ zeros (v - least)) bytes ((w ++ zeros (v - least)) ++ (k.value ∷ [])) (drop (at + f.used + 1 + k.used) text)
-              (this_code (w ++ zeros (v - least)) ∙ code_some (w ++ zeros (v - least)) (drop (at + f.used + 1) text) k h z ∙ rw (drop-drop k.used (at + f.used + 1) text)))
+              let y : n - least - (v - least) ≡ suc (n - (v + 1)) = omega (arith, a, b) in record {
+                rises = a;
+                inside = b;
+                within = l;
+                some = λ w.
+                    cells_skip (v - least) first (n - least) least w bytes (omega (arith, a, b))
+                    (λ j g r. other (least + j) (omega (arith, g, b)) (differs (least + j) (λ p. omega (arith, p, g))) r)
+                    ∙ rw (x, y)
+                    (cells_some first (n - (v + 1)) v (w ++ zeros (v - least)) bytes ((w ++ zeros (v - least)) ++ (c ∷ [])) rest'
+                    (this_code (w ++ zeros (v - least)) ∙ rw (← f.1, ← f.2) (code_some (w ++ zeros (v - least)) u _ refl (λ i. z (sym f.1 ∙ i)))));
+              }
 
 -- Behind the first cell no comma stands.
-pub no_comma : (bytes text : List ℕ) (least n : ℕ) → ((w : List ℕ) → expect (newline ∷ []) w bytes ≡ wrong) → ((w : List ℕ) → expect (comma ∷ []) w bytes ≡ wrong)
-    → (w : List ℕ) → read_cells false (n - least) least w bytes ≡ wrong
-no_comma bytes text least n o z = none_of false bytes text least n o (λ d a b w. cell_no_comma d w [] bytes (z []))
+pub no_comma : (bytes : List ℕ) (least n : ℕ) → IsWrong (expect (newline ∷ [])) bytes → IsWrong (expect (comma ∷ [])) bytes
+    → IsWrong (read_cells false (n - least) least) bytes
+no_comma bytes least n o z = none_of false bytes least n o (λ d a b w. cell_no_comma d w [] bytes (z.line []))
+
+-- A comma stands there.
+pub comma_there : (bytes rest : List ℕ) → Reads (expect (comma ∷ [])) bytes [] rest → bytes ≡ before false ++ rest
+unfolding before
+comma_there bytes rest q = sym (expect_told (comma ∷ []) [] bytes [] rest (q.line [])).1
+
+pub behind_comma : (first : Bool) (bytes s : List ℕ) → bytes ≡ before first ++ s → length s ≤ length bytes
+behind_comma first bytes s e = rw (e, length-append (before first) s) (omega arith)

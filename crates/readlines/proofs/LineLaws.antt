@@ -1,85 +1,57 @@
--- Lines: what a cursor stands for after them, and at the end of the text, over plain variables.
-use mathlib.Core.Path.{◌≡◌, refl, sym, ap, ◌∙◌}
-use mathlib.Core.Bool.{true, false}
-use mathlib.Core.List.{List}
-use Prim.Native.Nat.{ℕ, zero, suc, ◌+◌, ◌*◌, ◌-◌, ◌<◌, ◌≤◌}
-use native.Mathlib.Nat.{suc-mul}
-use native.Mathlib.Numerals.{sub-one}
+-- Lines, and the end of the text, over plain variables.
+use mathlib.Core.Path.{◌≡◌, refl, ◌∙◌}
+use mathlib.Core.List.{List, [], ◌∷◌, ◌++◌, append_assoc, append-nil}
+use Prim.Native.Nat.{ℕ, suc, ◌+◌, ◌*◌, ◌-◌, ◌<◌, ◌≤◌}
+use native.Mathlib.Nat.{mul-le-mul_right}
 use native.Mathlib.Omega.{arith}
-use lib.ListN.{length, take, drop, drop_of_length-le}
-use lib.Seq.{drop-cons}
+use borrow.Rule.Slice.PartMut.{put_mid}
+use lib.ListN.{length, take, drop, length-drop, length-take}
+use Rattle.std.proofs.lemmas.Slice.{take-put_mid}
 use Rattle.text.specs.declared.Row.{Row}
-use Rattle.text.specs.Reader.{Lines, then_read, expect, read_row, then_lines, as_line, read_lines, ended}
-use Rattle.text.specs.Reader.Lines.{wrong_from, all}
-use Rattle.fields.specs.Steps.{Placed}
-use Rattle.fields.proofs.PlaceLaws.{took_is, wrong_is}
-use Rattle.readlines.specs.declared.Cursor.{Cursor}
-use Rattle.readlines.specs.Steps.{lines_of, ReadsLines}
+use Rattle.text.specs.Reader.{then_read, expect, read_row, then_lines, as_line, read_lines, ended}
+use Rattle.fields.specs.Steps.{IsWrong, Reads}
+use Rattle.readlines.specs.Steps.{ReadsLines, WrongFrom}
 
--- One turn of a table.
-pub one_more : (left w : ℕ) → (left ≡ 0 → ⊥) → left * w ≡ (left - 1) * w + w
-one_more zero w z = absurd (z refl)
-one_more (suc left) w z = rw (sub-one (suc left)) (suc-mul left w)
+-- Where a row stands in its table.
+pub row_inside : (i n w : ℕ) → i < n → i * w + w ≤ n * w
+row_inside i n w h = let l : suc i ≤ n = omega arith in grind (arith, mul-le-mul_right w l)
 
-module _ (text img : List ℕ) (c : Cursor) (f : List ℕ → List ℕ → Lines) where
-  pub lines_pass : (img' : List ℕ) (most : ℕ) → c.ok ≡ false → c.at ≤ length text → c.words ≤ most → ReadsLines (then_lines (lines_of text img c) f) text img' most c
-  unfolding lines_of then_lines
-  lines_pass img' most e i l = record { means = simp (lines_of, then_lines, e); inside = i; fits = l }
+pub part_size : (a w : ℕ) (xs : List ℕ) → a + w ≤ length xs → length (take (a + w - a) (drop a xs)) ≡ w
+part_size a w xs h = omega (arith, length-take (a + w - a) (drop a xs), length-drop a xs)
 
-  pub lines_go : c.ok ≡ true → then_lines (lines_of text img c) f ≡ f (take c.words img) (drop c.at text)
-  unfolding lines_of then_lines
-  lines_go e = simp (lines_of, then_lines, e)
+-- The words of one row more.
+pub table_grows : (i w k : ℕ) (xs ys : List ℕ) → length ys ≡ w → i * w ≤ length xs → take ((i + 1) * w) (put_mid (i * w) k xs ys) ≡ take (i * w) xs ++ ys
+table_grows i w k xs ys h l = take-put_mid (i * w) k xs ys ((i + 1) * w) (omega arith) l
 
--- Lines that began with all right.
-module _ (text img img' : List ℕ) (c : Cursor) (f : List ℕ → List ℕ → Lines) (most at words : ℕ) (e : c.ok ≡ true) (i : at ≤ length text) (l : words ≤ most) where
-  pub lines_fail : wrong_from (drop at text) ≡ f (take c.words img) (drop c.at text)
-      → ReadsLines (then_lines (lines_of text img c) f) text img' most (record { ok = false; at = at; words = words })
-  unfolding lines_of
-  lines_fail q = record { means = q ∙ sym (lines_go text img c f e); inside = i; fits = l }
-
-  pub lines_went : all (take words img') (drop at text) ≡ f (take c.words img) (drop c.at text)
-      → ReadsLines (then_lines (lines_of text img c) f) text img' most (record { ok = true; at = at; words = words })
-  unfolding lines_of
-  lines_went q = record { means = q ∙ sym (lines_go text img c f e); inside = i; fits = l }
-
--- The lines of a table that are left.
-module _ (text w w' name : List ℕ) (row : Row) (at p left : ℕ) (z : left ≡ 0 → ⊥)
-    (q : Placed (then_read (expect name w (drop at text)) (read_row row)) text w' p) where
-  table_go : read_lines name row left w (drop at text) ≡ then_lines (as_line (drop at text) (then_read (expect name w (drop at text)) (read_row row))) (read_lines name row (left - 1))
+-- The lines of a table that are left, from where it stands, give what all of them give.
+module _ (name : List ℕ) (row : Row) (n i : ℕ) (bytes left so_far : List ℕ)
+    (same : (w : List ℕ) → read_lines name row n w bytes ≡ read_lines name row (n - i) (w ++ so_far) left) (l : length left ≤ length bytes) where
+  pub lines_done : (rows : List ℕ) → n ≤ i → so_far ≡ rows → ReadsLines (read_lines name row n) bytes rows left
   unfolding read_lines
-  table_go =
-      let y : left ≡ suc (left - 1) = omega arith in
-      ap (λ (k : ℕ). read_lines name row k w (drop at text)) y
+  lines_done rows h e = let z : n - i ≡ 0 = omega arith in record { lines = λ w. same w ∙ rw (z, e); within = l }
 
-  pub lines_wrong : length text < p → wrong_from (drop at text) ≡ read_lines name row left w (drop at text)
-  unfolding as_line then_lines
-  lines_wrong h = sym (table_go ∙ rw (← wrong_is _ text w' p q h))
+  module _ (h : i < n) where
+    lines_go : (w : List ℕ) → read_lines name row (n - i) w left
+        ≡ then_lines (as_line left (then_read (expect name w left) (read_row row))) (read_lines name row (n - (i + 1)))
+    unfolding read_lines
+    lines_go w = let y : n - i ≡ suc (n - (i + 1)) = omega arith in rw y
 
-  pub lines_on : p ≤ length text → read_lines name row left w (drop at text) ≡ read_lines name row (left - 1) w' (drop p text)
-  unfolding as_line then_lines
-  lines_on h = table_go ∙ rw (← took_is _ text w' p q h)
+    pub lines_wrong : IsWrong (λ w b. then_read (expect name w b) (read_row row)) left → WrongFrom (read_lines name row n) bytes left
+    unfolding as_line then_lines
+    lines_wrong q = record { lines = λ w. same w ∙ lines_go (w ++ so_far) ∙ rw (q.line (w ++ so_far)); within = l }
 
-pub lines_end : (name : List ℕ) (row : Row) (left : ℕ) (w bytes : List ℕ) → left ≡ 0 → all w bytes ≡ read_lines name row left w bytes
-unfolding read_lines
-lines_end name row left w bytes z = rw z
-
-pub lines_as : {lines : Lines} {text img : List ℕ} {most : ℕ} {c : Cursor} (lines' : Lines) → lines' ≡ lines → ReadsLines lines text img most c → ReadsLines lines' text img most c
-lines_as lines' e r = record { means = r.means ∙ sym e; inside = r.inside; fits = r.fits }
+    pub lines_on : (words rest rows : List ℕ) → Reads (λ w b. then_read (expect name w b) (read_row row)) left words rest → rows ≡ so_far ++ words → (w : List ℕ)
+        → read_lines name row n w bytes ≡ read_lines name row (n - (i + 1)) (w ++ rows) rest
+    unfolding as_line then_lines
+    lines_on words rest rows q e w = same w ∙ lines_go (w ++ so_far) ∙ rw (q.line (w ++ so_far), e, append_assoc w so_far words)
 
 -- The end of the text.
-module _ (text img : List ℕ) (c : Cursor) (i : c.at ≤ length text) (e : c.ok ≡ true) where
-  pub end_more : c.at < length text → ReadsLines (then_lines (lines_of text img c) ended) text img c.words (record { ok = false; at = c.at; words = c.words })
-  unfolding ended lines_of
-  end_more h = record {
-    means = sym (lines_go text img c ended e ∙ rw (drop-cons text c.at 0 h));
-    inside = i;
-    fits = omega arith;
-  }
+pub end_here : (bytes : List ℕ) → length bytes ≡ 0 → ReadsLines ended bytes [] []
+unfolding ended
+end_here [] e = record { lines = λ w. rw (append-nil w); within = omega arith }
+end_here (b ∷ bytes) e = absurd (omega arith)
 
-  pub end_here : length text ≤ c.at → ReadsLines (then_lines (lines_of text img c) ended) text img c.words c
-  unfolding ended lines_of then_lines
-  end_here h = record {
-    means = simp (lines_of, e, drop_of_length-le text h);
-    inside = i;
-    fits = omega arith;
-  }
+pub end_more : (bytes : List ℕ) → (length bytes ≡ 0 → ⊥) → WrongFrom ended bytes bytes
+unfolding ended
+end_more [] e = absurd (e refl)
+end_more (b ∷ bytes) e = record { lines = λ w. refl; within = omega arith }

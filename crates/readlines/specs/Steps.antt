@@ -1,16 +1,14 @@
--- What the parts of the reader promise each other. The program holds a place in the text and a number of words where the definitions
--- hold the bytes that are left and the words so far.
-use Rattle.std.specs.Prelude.{◌≡◌, true, false, List, ℕ, ◌≤◌, length, take, drop}
+-- What the parts of the reader promise each other: lines, whatever words stand before theirs.
+use Rattle.std.specs.Prelude.{◌≡◌, List, ◌++◌, ℕ, ◌≤◌, length}
 use Rattle.text.specs.Reader.{Lines}
 use Rattle.text.specs.Reader.Lines.{wrong_from, all}
-use Rattle.readlines.specs.declared.Cursor.{Cursor}
 
--- What a cursor stands for after lines.
-unfoldable pub lines_of : List ℕ → List ℕ → Cursor → Lines
-lines_of text img c = elim c.ok [ false ↦ wrong_from (drop c.at text) | true ↦ all (take c.words img) (drop c.at text) ]
+-- Lines at the front of these bytes are right: they give these words, behind those before them, and this rest.
+pub record ReadsLines (part : List ℕ → List ℕ → Lines) (bytes words rest : List ℕ) : Type 0 where
+  pub lines : (before : List ℕ) → part before bytes ≡ all (before ++ words) rest
+  pub within : length rest ≤ length bytes
 
--- The cursor stands for these lines, within the text and with no more words than `most`.
-pub record ReadsLines (lines : Lines) (text img : List ℕ) (most : ℕ) (c : Cursor) : Type 0 where
-  pub means : lines_of text img c ≡ lines
-  pub inside : c.at ≤ length text
-  pub fits : c.words ≤ most
+-- They are wrong, and these are the bytes from the start of the wrong one on.
+pub record WrongFrom (part : List ℕ → List ℕ → Lines) (bytes from : List ℕ) : Type 0 where
+  pub lines : (before : List ℕ) → part before bytes ≡ wrong_from from
+  pub within : length from ≤ length bytes

@@ -1,184 +1,151 @@
-// Reading a line of a text, part by part: what stands behind a place of the text becomes words of an image. Each part of a line gives
-// the place behind it, and a place behind the text where it is wrong.
+// Reading a line of a text, part by part: what stands at the front of the bytes that are left becomes the words of a row. A right part of a
+// line gives the bytes behind it.
 #![tactic(auto)]
 
-ghost use Rattle.std.specs.Prelude.{List, [], ◌∷◌, ◌++◌, ℕ, ◌+◌, ◌*◌, ◌-◌, ◌<◌, ◌≤◌, length, take, drop};
-ghost use Rattle.pack.specs.Image.{group_words, largest_image, most_symbols, production_words, set_words};
-ghost use Rattle.text.specs.Form.{newline, row_width};
-ghost use Rattle.text.specs.Reader.Line.{took};
-ghost use Rattle.text.specs.Reader.{then_read, expect, read_fields, zeros, read_symbols, read_row};
-ghost use Rattle.fields.specs.Steps.{Placed};
+ghost use Rattle.std.specs.Prelude.{◌≡◌, [], ◌+◌, ◌*◌, ◌<◌, ◌≤◌, MatchOption, length, take};
+ghost use Rattle.pack.specs.Image.{group_words, largest_image, most_symbols, production_words};
+ghost use Rattle.text.specs.declared.Kind.{Kind};
+ghost use Rattle.text.specs.Fields.{width_of};
+ghost use Rattle.text.specs.Form.{row_width};
+ghost use Rattle.text.specs.Reader.{then_read, expect, field_then, read_fields, read_symbols, read_row};
+ghost use Rattle.fields.specs.Steps.{IsWrong, Reads};
+ghost use Rattle.rows.specs.Steps.{Puts};
 
 use cells::{pad, read_cells};
 use fields::{one_digit, read_number, stands};
 use hexset::{read_set, set_words};
-use pack::image::SET_WORDS;
-use text::{COMMA, Kind, NEWLINE, Row};
-
-// The most symbols of a production, as the number that is read.
-const MOST_SYMBOLS: u64 = pack::image::MOST_SYMBOLS as u64;
+use pack::image::{MOST_SYMBOLS, SET_WORDS};
+use rowkinds::after;
+use text::{COMMA, GREATEST_WORD, Kind, NEWLINE, Row};
 
 // A name that must stand next.
-pub fn expect(text: &[u8], at: usize, name: &[u8]) -> usize
-    requires { at ≤ length text.now }
-    ensures { (words : List ℕ) → Placed (expect name.now words (drop at text.now)) text.now words result }
+pub fn expect<'t>(bytes: &'t [u8], name: &[u8]) -> Option<&'t [u8]>
+    ensures { MatchOption result (IsWrong (expect name.now) bytes.now) (λ r. Reads (expect name.now) bytes.now [] r.now) }
 {
-    let mut i: usize = 0;
-    while i < name.len() {
-        if text.len() <= at + i {
-            return text.len() + 1;
-        }
-        if text[at + i] != name[i] {
-            return text.len() + 1;
-        }
-        i += 1;
+    if bytes.starts_with(name) {
+        Some(&bytes[name.len()..])
+    } else {
+        None
     }
-    at + i
 }
 
-// So many numbers, split by commas, the last followed by `end`, which is no digit.
-fn read_numbers(text: &[u8], img: &mut [u16], at: usize, words: usize, n: usize, end: u8) -> usize
-    requires { (at ≤ length text.now) × ((words + n ≤ length img.old) × (end < 48)) }
-    ensures { Placed (read_fields Kind.Number n end (take words img.old) (drop at text.now)) text.now (take (words + n) img.new) result }
-{
-    let mut p = at;
-    let mut to = words;
-    let mut left = n;
-    while left != 0 {
-        left -= 1;
-        let next = rowkinds::after(left, end);
-        if one_digit(text, p, next) {
-            img[to] = (text[p] - 48) as u16;
-            p += 2;
-            to += 1;
-            continue;
-        }
-        let f = read_number(text, p, text::GREATEST_WORD);
-        let used = f.used;
-        if used == 0 {
-            return text.len() + 1;
-        }
-        if !stands(text, p + used, next) {
-            return text.len() + 1;
-        }
-        img[to] = f.value as u16;
-        p = p + used + 1;
-        to += 1;
-    }
-    p
+// How the fields of a row are read, each into its words.
+trait FieldForm {
+    ghost kind: { Kind };
+
+    // Field i of a row and the byte after it, which is no digit.
+    fn read_field<'t>(bytes: &'t [u8], next: u8, row: &mut [u16], i: usize) -> Option<&'t [u8]>
+        requires room { (i + 1) * width_of kind ≤ length row.old }
+        requires no_digit { next < 48 }
+        ensures { MatchOption result (IsWrong (field_then kind next) bytes.now) (λ r. Puts (field_then kind next) bytes.now (take (i * width_of kind) row.old) (take ((i + 1) * width_of kind) row.new) r.now) };
 }
 
-// So many sets, split by commas, the last followed by `end`.
-fn read_sets(text: &[u8], img: &mut [u16], at: usize, words: usize, n: usize, end: u8) -> usize
-    requires { (at ≤ length text.now) × (words + n * set_words ≤ length img.old) }
-    ensures { Placed (read_fields Kind.Set n end (take words img.old) (drop at text.now)) text.now (take (words + n * set_words) img.new) result }
-{
-    let mut p = at;
-    let mut to = words;
-    let mut left = n;
-    while left != 0 {
-        left -= 1;
-        let f = read_set(text, p);
-        let used = f.used;
-        if used == 0 {
-            return text.len() + 1;
+// Numbers, of one word each. Most have one digit.
+struct Numbers;
+
+impl FieldForm for Numbers {
+    ghost kind = { Kind.Number };
+
+    fn read_field<'t>(bytes: &'t [u8], next: u8, row: &mut [u16], i: usize) -> Option<&'t [u8]> {
+        if let Some((digit, rest)) = one_digit(bytes, next) {
+            row[i] = digit;
+            return Some(rest);
         }
-        if !stands(text, p + used, rowkinds::after(left, end)) {
-            return text.len() + 1;
-        }
-        set_words(img, to, f.value);
-        p = p + used + 1;
-        to += SET_WORDS;
+        let (number, rest) = read_number(bytes, GREATEST_WORD)?;
+        let rest = stands(rest, next)?;
+        row[i] = number as u16;
+        Some(rest)
     }
-    p
 }
 
-// The len of a production as a word, the symbols, and 0 for each that it does not use.
-fn symbols_then(text: &[u8], img: &mut [u16], at: usize, words: usize, len: u16) -> usize
-    requires { (at ≤ length text.now) × ((words + (1 + most_symbols) ≤ length img.old) × (len ≤ most_symbols)) }
-    ensures { Placed (then_read (read_fields Kind.Number len newline (take words img.old ++ (len ∷ [])) (drop at text.now)) (λ u left. took (u ++ zeros (most_symbols - len)) left)) text.now (take (words + (1 + most_symbols)) img.new) result }
-{
-    let n = len as usize;
-    img[words] = len;
-    let p = read_numbers(text, img, at, words + 1, n, NEWLINE);
-    pad(img, words + 1 + n, pack::image::MOST_SYMBOLS - n);
-    p
+// Sets, of four words each.
+struct Sets;
+
+impl FieldForm for Sets {
+    ghost kind = { Kind.Set };
+
+    fn read_field<'t>(bytes: &'t [u8], next: u8, row: &mut [u16], i: usize) -> Option<&'t [u8]> {
+        let (set, rest) = read_set(bytes)?;
+        let rest = stands(rest, next)?;
+        set_words(row, i * SET_WORDS, set);
+        Some(rest)
+    }
 }
 
-// The len of a production and its symbols, as 15 words.
-fn read_symbols(text: &[u8], img: &mut [u16], at: usize, words: usize) -> usize
-    requires { (at ≤ length text.now) × (words + (1 + most_symbols) ≤ length img.old) }
-    ensures { Placed (read_symbols (take words img.old) (drop at text.now)) text.now (take (words + (1 + most_symbols)) img.new) result }
+// The n fields of a row, split by commas, the last followed by `end`, which is no digit.
+fn read_fields<'t, F: FieldForm>(
+    bytes: &'t [u8],
+    row: &mut [u16],
+    n: usize,
+    end: u8,
+) -> Option<&'t [u8]>
+    requires whole { length row.old ≡ n * width_of F.kind }
+    requires no_digit { end < 48 }
+    ensures { MatchOption result (IsWrong (read_fields F.kind n end) bytes.now) (λ r. Reads (read_fields F.kind n end) bytes.now row.new r.now) }
 {
-    let f = read_number(text, at, text::GREATEST_WORD);
-    let used = f.used;
-    let value = f.value;
-    if used == 0 {
-        return text.len() + 1;
+    let mut left = bytes;
+    for i in 0..n {
+        left = F::read_field(left, after(n - (i + 1), end), row, i)?;
     }
-    if MOST_SYMBOLS < value {
-        return text.len() + 1;
+    Some(left)
+}
+
+// The len of a production and its symbols, as 15 words, 0 for each that it does not use.
+fn read_symbols<'t>(bytes: &'t [u8], row: &mut [u16]) -> Option<&'t [u8]>
+    requires { length row.old ≡ 1 + most_symbols }
+    ensures { MatchOption result (IsWrong read_symbols bytes.now) (λ r. Reads read_symbols bytes.now row.new r.now) }
+{
+    let (number, rest) = read_number(bytes, GREATEST_WORD)?;
+    let len = number as usize;
+    if MOST_SYMBOLS < len {
+        return None;
     }
-    let len = value as u16;
-    if !stands(text, at + used, rowkinds::after(len as usize, NEWLINE)) {
-        return text.len() + 1;
-    }
-    symbols_then(text, img, at + used + 1, words, len)
+    let rest = stands(rest, after(len, NEWLINE))?;
+    row[0] = len as u16;
+    let rest = read_fields::<Numbers>(rest, &mut row[1..1 + len], len, NEWLINE)?;
+    pad(row, 1 + len, MOST_SYMBOLS - len);
+    Some(rest)
 }
 
 // A production: its left side, its len and its symbols.
-fn read_production(text: &[u8], img: &mut [u16], at: usize, words: usize) -> usize
-    requires { (at ≤ length text.now) × (words + production_words ≤ length img.old) }
-    ensures { Placed (read_row Row.Production (take words img.old) (drop at text.now)) text.now (take (words + production_words) img.new) result }
+fn read_production<'t>(bytes: &'t [u8], row: &mut [u16]) -> Option<&'t [u8]>
+    requires { length row.old ≡ production_words }
+    ensures { MatchOption result (IsWrong (read_row Row.Production) bytes.now) (λ r. Reads (read_row Row.Production) bytes.now row.new r.now) }
 {
-    let p = read_numbers(text, img, at, words, 1, COMMA);
-    if text.len() < p {
-        return p;
-    }
-    read_symbols(text, img, p, words + 1)
+    let rest = Numbers::read_field(bytes, COMMA, row, 0)?;
+    read_symbols(rest, &mut row[1..])
 }
 
 // A group: its set and the chosen terminal.
-fn read_group(text: &[u8], img: &mut [u16], at: usize, words: usize) -> usize
-    requires { (at ≤ length text.now) × (words + group_words ≤ length img.old) }
-    ensures { Placed (read_row Row.Group (take words img.old) (drop at text.now)) text.now (take (words + group_words) img.new) result }
+fn read_group<'t>(bytes: &'t [u8], row: &mut [u16]) -> Option<&'t [u8]>
+    requires { length row.old ≡ group_words }
+    ensures { MatchOption result (IsWrong (read_row Row.Group) bytes.now) (λ r. Reads (read_row Row.Group) bytes.now row.new r.now) }
 {
-    let p = read_sets(text, img, at, words, 1, COMMA);
-    if text.len() < p {
-        return p;
-    }
-    read_numbers(text, img, p, words + SET_WORDS, 1, NEWLINE)
+    let rest = Sets::read_field(bytes, COMMA, row, 0)?;
+    Numbers::read_field(rest, NEWLINE, row, SET_WORDS)
 }
 
 // What stands behind the `=` of a line.
-fn read_row(text: &[u8], img: &mut [u16], at: usize, words: usize, row: Row) -> usize
-    requires { (at ≤ length text.now) × ((words + row_width row ≤ length img.old) × (row_width row ≤ largest_image)) }
-    ensures { Placed (read_row row (take words img.old) (drop at text.now)) text.now (take (words + row_width row) img.new) result }
+fn read_row<'t>(bytes: &'t [u8], row: &mut [u16], kind: Row) -> Option<&'t [u8]>
+    requires whole { length row.old ≡ row_width kind }
+    requires in_bounds { row_width kind ≤ largest_image }
+    ensures { MatchOption result (IsWrong (read_row kind) bytes.now) (λ r. Reads (read_row kind) bytes.now row.new r.now) }
 {
-    match row {
-        Row::Numbers(n) => read_numbers(text, img, at, words, n, NEWLINE),
-        Row::Cells(n) => read_cells(text, img, at, words, n),
-        Row::Sets(n) => read_sets(text, img, at, words, n, NEWLINE),
-        Row::Production => read_production(text, img, at, words),
-        Row::Group => read_group(text, img, at, words),
+    match kind {
+        Row::Numbers(n) => read_fields::<Numbers>(bytes, row, n, NEWLINE),
+        Row::Cells(_) => read_cells(bytes, row),
+        Row::Sets(n) => read_fields::<Sets>(bytes, row, n, NEWLINE),
+        Row::Production => read_production(bytes, row),
+        Row::Group => read_group(bytes, row),
     }
 }
 
-// One line of a table.
-pub fn read_line(
-    text: &[u8],
-    img: &mut [u16],
-    at: usize,
-    words: usize,
-    name: &[u8],
-    row: Row,
-) -> usize
-    requires { (at ≤ length text.now) × ((words + row_width row ≤ length img.old) × (row_width row ≤ largest_image)) }
-    ensures { Placed (then_read (expect name.now (take words img.old) (drop at text.now)) (read_row row)) text.now (take (words + row_width row) img.new) result }
+// One line of a table: its words become those of the row.
+pub fn read_line<'t>(bytes: &'t [u8], row: &mut [u16], name: &[u8], kind: Row) -> Option<&'t [u8]>
+    requires whole { length row.old ≡ row_width kind }
+    requires in_bounds { row_width kind ≤ largest_image }
+    ensures { MatchOption result (IsWrong (λ w b. then_read (expect name.now w b) (read_row kind)) bytes.now) (λ r. Reads (λ w b. then_read (expect name.now w b) (read_row kind)) bytes.now row.new r.now) }
 {
-    let p = expect(text, at, name);
-    if text.len() < p {
-        return p;
-    }
-    read_row(text, img, p, words, row)
+    let rest = expect(bytes, name)?;
+    read_row(rest, row, kind)
 }

@@ -2,15 +2,19 @@
 -- as all of them.
 use mathlib.Core.Path.{◌≡◌}
 use mathlib.Core.Bool.{true}
-use Prim.Native.Nat.{◌+◌, ◌-◌, ◌≤◌}
-use lib.ListN.{length, take, drop}
+use mathlib.Core.List.{List, ◌++◌}
+use Prim.Native.Nat.{ℕ, ◌-◌, ◌≤◌}
+use lib.ListN.{length, take}
 use Rattle.text.specs.Reader.{read_cells}
 use Rattle.cells.proofs.read_cells.Given as goal
 
-abbrev pub invariant-loop-img : goal.invariant-loop-img
-invariant-loop-img l =
-    (l.p ≤ length l.text) × (l.next ≤ l.n) × (length l.img ≡ length l.initial.img)
-    × (read_cells true l.n 0 (take l.words l.initial.img) (drop l.at l.text) ≡ read_cells l.first (l.n - l.next) l.next (take (l.words + l.next) l.img) (drop l.p l.text))
+abbrev pub invariant-columns : goal.invariant-columns
+invariant-columns l = record {
+  next_inside : l.next ≤ l.n;
+  row_whole : length l.row ≡ l.n;
+  within : length l.left ≤ length l.bytes;
+  same : (w : List ℕ) → read_cells true l.n 0 w l.bytes ≡ read_cells l.first (l.n - l.next) l.next (w ++ take l.next l.row) l.left;
+}
 
-abbrev pub decreases-loop-img : goal.decreases-loop-img
-decreases-loop-img l = l.n - l.next
+abbrev pub decreases-columns : goal.decreases-columns
+decreases-columns l = l.n - l.next

@@ -1,17 +1,23 @@
 -- `fields::read_number` meets its contract.
 use mathlib.Core.Path.{sym, ◌∙◌}
-use borrow.Author.Rules.{rules}
-use Rattle.fields.proofs.FieldLaws.{number_much, number_short, number_zero, number_long, front_at}
+use native.Mathlib.Omega.{arith}
+use lib.ListN.{length-drop}
+use Rattle.fields.proofs.FieldLaws.{rest_is, number_none, number_much, number_zero, number_is, number_some}
 use Rattle.fields.proofs.read_number.Goals as goal
 
-pub returns-then-most-value : goal.returns-then-most-value
-returns-then-most-value c = record { value = number_much _ _ _ c.digits-f.ensures.value c.if-most-value.true; used_in_bounds = search rules }
+pub returns-then-used-eq0-clause-value : goal.returns-then-used-eq0-clause-value
+returns-then-used-eq0-clause-value c = number_none _ _ _ _ c.digits-value.ensures.value c.if-used-eq0.true
 
-pub returns-then-used-lt2 : goal.returns-then-used-lt2
-returns-then-used-lt2 c = record { value = number_short _ _ _ c.digits-f.ensures.value c.if-most-value.false c.if-used-lt2.true; used_in_bounds = search rules }
+pub returns-then-from-value-clause-value : goal.returns-then-from-value-clause-value
+returns-then-from-value-clause-value c = number_much _ _ _ _ c.digits-value.ensures.value (omega arith)
 
-pub returns-then-text-at-eq48 : goal.returns-then-text-at-eq48
-returns-then-text-at-eq48 c = record { value = number_zero _ _ _ c.digits-f.ensures.value c.if-most-value.false c.if-used-lt2.false (front_at c.args.text.now c.args.at ∙ c.if-text-at-eq48.true); used_in_bounds = search rules }
+pub returns-then-leading_zero-clause-value : goal.returns-then-leading_zero-clause-value
+returns-then-leading_zero-clause-value c = number_zero _ _ _ _ c.digits-value.ensures.value (sym c.leading_zero.ensures ∙ c.if-leading_zero.true)
 
-pub returns : goal.returns
-returns c = record { value = number_long _ _ _ c.digits-f.ensures.value c.if-most-value.false c.if-used-lt2.false (λ z. c.if-text-at-eq48.false (sym (front_at c.args.text.now c.args.at) ∙ z)); used_in_bounds = search rules }
+pub returns-clause-value : goal.returns-clause-value
+returns-clause-value c =
+    number_some _ _ _ _ c.digits-value.ensures.value c.if-used-eq0.false (omega arith) (sym c.leading_zero.ensures ∙ c.if-leading_zero.false)
+
+pub returns-clause-used_in_bounds : goal.returns-clause-used_in_bounds
+returns-clause-used_in_bounds c =
+    rw (number_is _ _ _ _ c.digits-value.ensures.value (omega arith) (sym c.leading_zero.ensures ∙ c.if-leading_zero.false), rest_is, length-drop) (omega arith)

@@ -1,12 +1,9 @@
 -- `fields::stands` meets its contract.
-use Rattle.fields.specs.Steps.{whether}
-use Rattle.fields.proofs.FieldLaws.{said_no}
-use Rattle.fields.proofs.PlaceLaws.{stands_short, stands_is}
+use Rattle.fields.proofs.PartLaws.{stands_other, stands_here}
 use Rattle.fields.proofs.stands.Goals as goal
 
-pub returns-then-text-at : goal.returns-then-text-at
-unfolding whether
-returns-then-text-at c = record { expected = λ w. stands_short _ _ _ w c.if-text-at.true; at_in_bounds = said_no }
+pub returns-then-first-next : goal.returns-then-first-next
+returns-then-first-next c = stands_here _ _ _ _ c.in-Some.ensures.cases.0 c.if-first-next.true
 
-pub returns : goal.returns
-returns c = record { expected = λ w. stands_is _ _ _ w c.if-text-at.false; at_in_bounds = λ e. c.if-text-at.false }
+pub returns-else-first-next : goal.returns-else-first-next
+returns-else-first-next c = stands_other _ _ _ _ c.in-Some.ensures.cases.0 c.if-first-next.false

@@ -4,8 +4,8 @@ use Rattle.firstline.proofs.first_line.Goals as goal
 
 pub returns-in-One : goal.returns-in-One
 unfolding pack_line
-returns-in-One c = λ w. rw c.in-One.is (c.expect.ensures w)
+returns-in-One c = rw c.in-One.is c.expect.ensures
 
 pub returns-in-Two : goal.returns-in-Two
 unfolding pack_line
-returns-in-Two c = λ w. rw c.in-Two.is (c.expect-in-Two.ensures w)
+returns-in-Two c = rw c.in-Two.is c.expect-in-Two.ensures

@@ -1,43 +1,34 @@
-use mathlib.Core.Path.{sym, ◌∙◌}
+-- `hexset::read_set` meets its contract.
+use mathlib.Core.Path.{◌∙◌}
 use native.Mathlib.Omega.{arith}
-use borrow.Author.Rules.{rules}
-use lib.ListN.{length-drop}
-use Rattle.text.specs.Fields.{read_set}
-use Rattle.hexset.proofs.HexLaws.{hex_short, hex_bad, hex_on, hex_end, hex_room, hex_fits}
+use Rattle.hexset.proofs.HexLaws.{hex_short, hex_bad, hex_on, hex_end, words_room, words_fit, set_wrong, set_is, set_used}
 use Rattle.hexset.proofs.read_set.Goals as goal
 
-pub returns-then-text-at-lt16 : goal.returns-then-text-at-lt16
-unfolding read_set
-returns-then-text-at-lt16 c =
-    record { value = hex_short 16 _ 0 0 (rw (length-drop c.args.at c.args.text.now) (omega (arith, c.if-text-at-lt16.true, c.requires))); used_in_bounds = search rules }
+pub returns-then-bytes-lt-DIGITS-clause-value : goal.returns-then-bytes-lt-DIGITS-clause-value
+returns-then-bytes-lt-DIGITS-clause-value c = set_wrong _ (hex_short 16 _ 0 0 c.if-bytes-lt-DIGITS.true)
 
-pub returns-then-w-eq65536 : goal.returns-then-w-eq65536
-unfolding read_set
-returns-then-w-eq65536 c =
-    let l = c.loop-used.invariant in
-    record { value = hex_bad _ _ _ _ _ l.0 c.loop-used-test.true l.2 c.four-w.ensures c.if-w-eq65536.true ∙ sym l.4; used_in_bounds = search rules }
+pub returns-in_err-word-clause-value : goal.returns-in_err-word-clause-value
+returns-in_err-word-clause-value c =
+    let l = c.loop-i in rw c.from_residual.ensures (set_wrong _ (l.invariant.same ∙ hex_bad c.args.bytes.now l.i l.value l.invariant.long c.loop-i-test.true c.in_err-word.ensures))
 
 pub overflow_mul-value : goal.overflow_mul-value
 overflow_mul-value c =
-    let l = c.loop-used in
-    omega (arith, hex_room l.value 0 l.used l.invariant.3 (omega arith), hex_fits l.used (omega (arith, l.invariant.2, c.loop-used-test.true)))
+    let l = c.loop-i in omega (arith, words_room l.value 0 l.i l.invariant.small (omega arith), words_fit l.i c.loop-i-test.true)
 
 pub overflow_add-value : goal.overflow_add-value
 overflow_add-value c =
-    let l = c.loop-used in
-    let a = c.args in
-    let o = hex_on a.text.now a.at l.used l.value c.four-w.result l.invariant.0 c.loop-used-test.true l.invariant.2 c.four-w.ensures c.if-w-eq65536.false in
-    omega (arith, hex_room l.value c.four-w.result l.used l.invariant.3 o.0, hex_fits l.used (omega (arith, l.invariant.2, c.loop-used-test.true)))
+    let l = c.loop-i in
+    let o = hex_on c.args.bytes.now l.i l.value l.invariant.long c.loop-i-test.true _ c.in_ok-word.ensures in
+    omega (arith, words_room l.value _ l.i l.invariant.small o.0, words_fit l.i c.loop-i-test.true)
 
-pub loop-used-preserved : goal.loop-used-preserved
-loop-used-preserved c =
-    let l = c.loop-used in
-    let a = c.args in
-    let o = hex_on a.text.now a.at l.used l.value c.four-w.result l.invariant.0 c.loop-used-test.true l.invariant.2 c.four-w.ensures c.if-w-eq65536.false in
-    (l.invariant.0, omega (arith, l.invariant.2, c.loop-used-test.true), omega (arith, l.invariant.2), hex_room l.value c.four-w.result l.used l.invariant.3 o.0, l.invariant.4 ∙ o.1)
+pub loop-i-preserved : goal.loop-i-preserved
+loop-i-preserved c =
+    let l = c.loop-i in
+    let o = hex_on c.args.bytes.now l.i l.value l.invariant.long c.loop-i-test.true _ c.in_ok-word.ensures in
+    record { long = l.invariant.long; small = words_room l.value _ l.i l.invariant.small o.0; same = l.invariant.same ∙ o.1 }
 
-pub returns : goal.returns
-unfolding read_set
-returns c =
-    let l = c.loop-used.invariant in
-    record { value = hex_end _ _ _ c.loop-used-test.false ∙ sym l.4; used_in_bounds = omega (arith, l.0, l.1) }
+pub returns-clause-value : goal.returns-clause-value
+returns-clause-value c = let l = c.loop-i in set_is _ _ _ (l.invariant.same ∙ hex_end _ _ _ c.loop-i-test.false) (omega arith)
+
+pub returns-clause-used_in_bounds : goal.returns-clause-used_in_bounds
+returns-clause-used_in_bounds c = let l = c.loop-i in set_used _ _ _ (l.invariant.same ∙ hex_end _ _ _ c.loop-i-test.false) (omega arith) l.invariant.long

@@ -1,20 +1,14 @@
 -- `rows::read_group` meets its contract.
-use mathlib.Core.Path.{◌≡◌}
-use Prim.Native.Nat.{◌+◌}
 use native.Mathlib.Omega.{arith}
-use Rattle.text.specs.declared.Kind.TheVariants.{Number, Set}
-use Rattle.text.specs.Reader.{read_row}
-use Rattle.rows.proofs.RowLaws.{part_wrong, part_on, placed_field}
+use lib.Seq.{take_all}
+use Rattle.fields.proofs.PartLaws.{matched}
+use Rattle.rows.proofs.RowLaws.{no_set, no_choice, group_there}
 use Rattle.rows.proofs.read_group.Goals as goal
 
-pub returns-then-text-p : goal.returns-then-text-p
-unfolding read_row
-returns-then-text-p c =
-    part_wrong _ (placed_field Set _ _ _ c.read_sets-p.ensures) _ c.if-text-p.true
+pub returns-in_err-rest : goal.returns-in_err-rest
+returns-in_err-rest c = rw c.from_residual.ensures (no_set _ c.in_err-rest.ensures)
 
 pub returns : goal.returns
-unfolding read_row
 returns c =
-    let w = c.args.words in
-    let z : w + 4 + 1 ≡ w + 5 = omega arith in
-    part_on _ (placed_field Set _ _ _ c.read_sets-p.ensures) c.if-text-p.false (placed_field Number _ _ _ (rw z at c.read_numbers.ensures))
+    let p = c.in_ok-rest.ensures in
+    matched _ c.read_field-2.ensures (no_choice _ _ _ p) (λ r q. group_there _ _ _ p _ _ _ (take_all 5 c.read_field-2.new.row (omega arith)) q)

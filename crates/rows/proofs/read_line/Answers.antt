@@ -1,14 +1,9 @@
 -- `rows::read_line` meets its contract.
-use lib.ListN.{take}
-use Rattle.rows.proofs.RowLaws.{part_wrong, part_on}
+use Rattle.fields.proofs.PartLaws.{matched, then_wrong, then_later, then_reads}
 use Rattle.rows.proofs.read_line.Goals as goal
 
-pub returns-then-text-p : goal.returns-then-text-p
-returns-then-text-p c =
-    let a = c.args in
-    part_wrong _ (c.expect-p.ensures (take a.words a.img.now)) _ c.if-text-p.true
+pub returns-in_err-rest : goal.returns-in_err-rest
+returns-in_err-rest c = rw c.from_residual.ensures (then_wrong _ c.in_err-rest.ensures)
 
 pub returns : goal.returns
-returns c =
-    let a = c.args in
-    part_on _ (c.expect-p.ensures (take a.words a.img.now)) c.if-text-p.false c.read_row.ensures
+returns c = let p = c.in_ok-rest.ensures in matched _ c.read_row.ensures (then_later p) (λ r q. then_reads p q)

@@ -1,34 +1,36 @@
 -- `reader::tables::read_head` meets its contract.
 use mathlib.Core.Path.{sym, ◌∙◌}
-use mathlib.Core.List.{[], ◌∷◌}
 use native.Mathlib.Omega.{arith}
-use lib.ListN.{length-set}
+use lib.ListN.{length-set, length-drop}
+use Rattle.std.proofs.lemmas.List.{length-take}
 use Rattle.numbers.proofs.Laws.{err_is_wrong}
 use Rattle.text.specs.Form.{sizes, row_width}
-use Rattle.reader.proofs.TableLaws.{first_word, head_wrong, size_wrong, limits_broken, limits_kept}
+use Rattle.reader.proofs.TableLaws.{head_wrong, size_wrong, limits_broken, limits_kept, head_row}
 use Rattle.reader.proofs.tables.read_head.Goals as goal
 
-pub returns-then-text-start : goal.returns-then-text-start
-returns-then-text-start c = head_wrong _ _ _ (c.first_line-start.ensures (1 ∷ [])) _ c.if-text-start.true
+pub returns-in_default : goal.returns-in_default
+returns-in_default c = (head_wrong _ _ c.in_default.ensures, omega arith)
 
-pub read_line-p-requires : goal.read_line-p-requires
+pub read_line-requires-clause-whole : goal.read_line-requires-clause-whole
 unfolding row_width
-read_line-p-requires c =
-    (c.if-text-start.false, (simp length-set (omega (arith, c.requires)), omega arith))
+read_line-requires-clause-whole c = simp (length-take, length-drop, length-set) (omega arith)
 
-pub returns-then-text-p : goal.returns-then-text-p
+pub read_line-requires-clause-in_bounds : goal.read_line-requires-clause-in_bounds
+unfolding row_width
+read_line-requires-clause-in_bounds c = omega arith
+
+pub returns-in_default-read_line : goal.returns-in_default-read_line
 unfolding sizes row_width
-returns-then-text-p c =
-    size_wrong _ _ _ (c.first_line-start.ensures (1 ∷ [])) c.if-text-start.false _ _ (rw (first_word c.args.head.now (omega (arith, c.requires))) at c.read_line-p.ensures) c.if-text-p.true
+returns-in_default-read_line c = (size_wrong _ _ _ c.in-Some.ensures c.in_default-read_line.ensures, c.in-Some.ensures.within)
 
 pub returns-then-is_err : goal.returns-then-is_err
 unfolding sizes row_width
 returns-then-is_err c =
-    limits_broken _ _ _ (c.first_line-start.ensures (1 ∷ [])) c.if-text-start.false _ _ (rw (first_word c.args.head.now (omega (arith, c.requires))) at c.read_line-p.ensures) c.if-text-p.false
-    (c.read_line-p.auto.img ∙ simp length-set c.requires) _ c.sizes.ensures (err_is_wrong _ ∙ sym c.is_err.ensures.value ∙ c.if-is_err.true)
+    let e = head_row c.args.head.now c.read_line.new.row c.requires c.read_line.auto.row in
+    (limits_broken _ _ _ c.in-Some.ensures _ _ _ c.in-Some-read_line.ensures e _ c.sizes.ensures (err_is_wrong _ ∙ sym c.is_err.ensures.value ∙ c.if-is_err.true), c.in-Some.ensures.within)
 
 pub returns : goal.returns
 unfolding sizes row_width
 returns c =
-    limits_kept _ _ _ (c.first_line-start.ensures (1 ∷ [])) c.if-text-start.false _ _ (rw (first_word c.args.head.now (omega (arith, c.requires))) at c.read_line-p.ensures) c.if-text-p.false
-    (c.read_line-p.auto.img ∙ simp length-set c.requires) _ c.sizes.ensures (err_is_wrong _ ∙ sym c.is_err.ensures.value ∙ c.if-is_err.false)
+    let e = head_row c.args.head.now c.read_line.new.row c.requires c.read_line.auto.row in
+    (limits_kept _ _ _ c.in-Some.ensures _ _ _ c.in-Some-read_line.ensures e _ c.sizes.ensures (err_is_wrong _ ∙ sym c.is_err.ensures.value ∙ c.if-is_err.false), omega (arith, c.in-Some.ensures.within, c.in-Some-read_line.ensures.within))
