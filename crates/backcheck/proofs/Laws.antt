@@ -6,6 +6,7 @@ use Prim.Native.Nat.{ℕ, zero, suc, ◌+◌, ◌*◌, ◌-◌, ◌<◌, ◌≤�
 use native.Mathlib.Omega.{arith}
 use lib.Dec.{eqb, ltb}
 use borrow.Author.Tests.{eqb-true, ltb-true, ltb-false}
+use Rattle.sets.specs.Sets.{member}
 use Rattle.pack.specs.Image.{terminals, productions, states, len, act}
 use Rattle.numbers.specs.Verdicts.{Good}
 use Rattle.shape.specs.Shape.{shape}
@@ -15,7 +16,7 @@ use Rattle.conditions.specs.Conditions.{reduces, steps, ends, k5}
 use Rattle.conditions.specs.Check.{c5, test, in_row}
 use Rattle.conditions.proofs.WalkLaws.{in_row_on, in_row_end}
 use Rattle.conditions.proofs.TestLaws.{some_one}
-use Rattle.edges.specs.Rows.{Next}
+use Rattle.edges.specs.Rows.{Whole, Next}
 
 -- K5 of a production: the row does not reduce by it; a step fails; the end decides.
 module _ (img : List ℕ) (s p : ℕ) where
@@ -51,8 +52,12 @@ in_row_past right i n j (suc k) h = in_row_past right i n j k (λ t l m. h t l (
     go false e = let l = ltb-false (j + k) n e in in_row_end right i n (j + k) l ∙ sym (in_row_end right i n (j + suc k) (omega arith))
 
 -- Row s of K5, from a production on to the next that it reduces by.
-pub row_past : (img : List ℕ) (s n : ℕ) {j k : ℕ} → Next (reduces img s) 128 j k → in_row (test c5 img s) s (n - j) j ≡ in_row (test c5 img s) s (n - k) k
+pub row_past : (img : List ℕ) (s n : ℕ) {by j k : ℕ} → Whole (reduces img s) by → Next (member by) 128 j k → in_row (test c5 img s) s (n - j) j ≡ in_row (test c5 img s) s (n - k) k
 unfolding test
-row_past img s n {j} {k} next =
+row_past img s n {by} {j} {k} w next =
     let z : j + (k - j) ≡ k = omega (arith, next.from) in
-    rw z at (in_row_past (test c5 img s) s n j (k - j) (λ t l m. k5_none img s t (next.none t l (omega arith))))
+    rw z at (in_row_past (test c5 img s) s n j (k - j) (λ t l m. k5_none img s t (sym (w.each t (omega (arith, next.most))) ∙ next.none t l (omega arith))))
+
+-- What a set of reductions has is a production that the row reduces by.
+pub reduces_by : (img : List ℕ) (s : ℕ) {by j k : ℕ} → Whole (reduces img s) by → Next (member by) 128 j k → k < 128 → reduces img s k ≡ true
+reduces_by img s {by} {j} {k} w next l = sym (w.each k l) ∙ next.there l

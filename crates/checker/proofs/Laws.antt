@@ -3,46 +3,31 @@ use mathlib.Core.Path.{◌≡◌, refl, sym, ◌∙◌}
 use mathlib.Core.Bool.{true, false}
 use mathlib.Core.List.{List, [], ◌∷◌}
 use Prim.Native.Nat.{ℕ}
+use Rattle.std.specs.Prelude.{Option, Result, Ok, Err, MatchResult}
 use Rattle.numbers.specs.Codes.{wrong_shape}
 use Rattle.numbers.specs.Verdicts.{Good, Wrong}
 use Rattle.shape.specs.Shape.{shape}
 use Rattle.conditions.specs.declared.Checked.{Checked}
-use Rattle.conditions.specs.declared.Finding.{Finding}
-use Rattle.conditions.specs.declared.Finding.TheVariants.{Holds, Fails}
-use Rattle.conditions.specs.Check.{Condition, number, find, is_fails, report, passed, first_failing, check_all, plain, check}
-use Rattle.conditions.proofs.TestLaws.{false-true}
-
--- One condition after the other.
-module _ (n : ℕ) (f : Finding) where
-  pub report_fails : (after : Checked) {r : Checked} → is_fails f ≡ true → r ≡ report n f passed → r ≡ report n f after
-  unfolding report is_fails
-  report_fails after e h = go f e h
-    where
-      go : (x : Finding) {r : Checked} → is_fails x ≡ true → r ≡ report n x passed → r ≡ report n x after
-      go Holds e h = false-true e
-      go (Fails a b) e h = h
-
-  pub report_holds : (after : Checked) → is_fails f ≡ false → report n f after ≡ after
-  unfolding report is_fails
-  report_holds after e = go f e
-    where
-      go : (x : Finding) → is_fails x ≡ false → report n x after ≡ after
-      go Holds e = refl
-      go (Fails a b) e = false-true (sym e)
+use Rattle.conditions.specs.declared.Failing.{Failing}
+use Rattle.conditions.specs.Check.{Condition, Holds, finding_of, number, find, report, first_failing, check_all, plain, check}
+use Rattle.conditions.specs.Failing.{numbers_of}
 
 -- The first condition listed fails, or it holds and the rest decides; the last one decides.
-module _ (c : Condition) (img : List ℕ) {f : Finding} (e : f ≡ find c img) where
-  pub fails_here : (others : List Condition) {r : Checked} → is_fails f ≡ true → r ≡ report (number c) f passed → r ≡ first_failing img (c ∷ others)
+module _ (c : Condition) (img : List ℕ) (places : Option (ℕ × ℕ)) (e : finding_of places ≡ find c img) where
+  pub fails_here : (others : List Condition) {r : Checked} → ((after : Checked) → r ≡ report (number c) (finding_of places) after) → r ≡ first_failing img (c ∷ others)
   unfolding first_failing
-  fails_here others g h = rw (← e) (report_fails (number c) f (first_failing img others) g h)
+  fails_here others h = rw (← e) (h (first_failing img others))
 
-  pub holds_here : (others : List Condition) {r : Checked} → is_fails f ≡ false → r ≡ first_failing img others → r ≡ first_failing img (c ∷ others)
-  unfolding first_failing
-  holds_here others g h = h ∙ sym (rw (← e) (report_holds (number c) f (first_failing img others) g))
+  pub holds_here : (others : List Condition) {r : Checked} → finding_of places ≡ Holds → r ≡ first_failing img others → r ≡ first_failing img (c ∷ others)
+  unfolding first_failing report
+  holds_here others g h = rw (← e, g) h
 
-  pub last_here : {r : Checked} → r ≡ report (number c) f passed → r ≡ first_failing img (c ∷ [])
+  pub last_here : (r : Result (Unit {0}) Failing)
+      → MatchResult r (λ (u : Unit {0}). finding_of places ≡ Holds) (λ (x : Failing). (after : Checked) → numbers_of (Err x) ≡ report (number c) (finding_of places) after)
+      → numbers_of r ≡ first_failing img (c ∷ [])
   unfolding first_failing
-  last_here h = rw (← e) h
+  last_here (Ok u) h = holds_here [] h refl
+  last_here (Err x) h = fails_here [] h
 
 -- The check, after shape.
 pub check_wrong : (img : List ℕ) (place : ℕ) → Wrong place ≡ shape img → record { code = wrong_shape; number = place; first = 0; second = 0 } ≡ check img

@@ -1,6 +1,6 @@
 -- What the answers of the check say: it passes exactly the packs that pass, and code 5 names the first condition that fails, at its
 -- least places. One walk serves all conditions. Assumes nothing.
-use mathlib.Core.Path.{◌≡◌, refl, sym, ap, ◌∙◌}
+use mathlib.Core.Path.{◌≡◌, refl, sym, ap, ap₂, ◌∙◌}
 use mathlib.Core.Bool.{Bool, true, false}
 use mathlib.Core.List.{List, [], ◌∷◌}
 use Prim.Native.Nat.{ℕ, zero, suc, ◌+◌, ◌<◌, ◌≤◌}
@@ -8,14 +8,16 @@ use native.Mathlib.Omega.{arith}
 use lib.Dec.{eqb, ltb}
 use lib.Arith.{lt_of_le-ne}
 use borrow.Author.Tests.{eqb-true, eqb-false, ltb-true, ltb-false}
+use Rattle.std.specs.Prelude.{Option, Some, None, Result, Ok, Err}
 use Rattle.numbers.specs.Codes.{wrong_shape}
 use Rattle.numbers.specs.Verdicts.{Verdict, Good, Wrong}
 use Rattle.shape.specs.Shape.{shape}
 use Rattle.conditions.specs.declared.Checked.{Checked}
-use Rattle.conditions.specs.declared.Finding.{Finding}
-use Rattle.conditions.specs.declared.Finding.TheVariants.{Holds, Fails}
+use Rattle.conditions.specs.declared.Failing.{Failing}
+use Rattle.conditions.specs.declared.Failing.TheVariants.{Word, Condition as AtPlaces}
+use Rattle.conditions.specs.Failing.{numbers_of}
 use Rattle.conditions.specs.Conditions.{Passes}
-use Rattle.conditions.specs.Check.{Condition, number, firsts, seconds, Meets, test, in_row, in_rows, find, report, passed, failed, first_failing, check_all, plain, check, Everywhere, Least, FirstFails, this, later, AllHold, none, more}
+use Rattle.conditions.specs.Check.{Condition, Finding, Holds, Fails, finding_of, number, firsts, seconds, Meets, test, in_row, in_rows, find, report, passed, failed, first_failing, check_all, plain, check, Everywhere, Least, FirstFails, this, later, AllHold, none, more}
 use Rattle.conditions.proofs.TestLaws.{false-true}
 use Rattle.conditions.proofs.Decides.{decides}
 
@@ -211,3 +213,23 @@ fails_checked cs img {n} {a} {b} good f = simp (check_all, good) (go (first_fail
     go : (r : Checked) → Answered img good cs r → r ≡ failed n a b
     go r (all_hold h) = absurd (not_both h f)
     go r (one_fails {n = m} {a = d} {b = e} g) = let z = one_first g f in rw (z.0, z.1, z.2)
+
+-- What is found is one, and so is what the code gives for an answer.
+pub same_finding : (a b : Option (ℕ × ℕ)) → finding_of a ≡ finding_of b → a ≡ b
+unfolding finding_of
+same_finding None None e = refl
+same_finding None (Some q) e = cc
+same_finding (Some p) None e = cc
+same_finding (Some p) (Some q) e = let f : p.0 ≡ q.0 = cc in let g : p.1 ≡ q.1 = cc in ap₂ (λ (x y : ℕ). Some (x, y)) f g
+
+pub same_outcome : (a b : Result (Unit {0}) Failing) → numbers_of a ≡ numbers_of b → a ≡ b
+same_outcome (Ok u) (Ok v) e = refl
+same_outcome (Ok u) (Err (Word p)) e = let z : ◌≡◌ {A = ℕ} 0 4 = ap (λ (r : Checked). r.code) e in absurd (omega arith)
+same_outcome (Ok u) (Err (AtPlaces n a b)) e = let z : ◌≡◌ {A = ℕ} 0 5 = ap (λ (r : Checked). r.code) e in absurd (omega arith)
+same_outcome (Err (Word p)) (Ok v) e = let z : ◌≡◌ {A = ℕ} 4 0 = ap (λ (r : Checked). r.code) e in absurd (omega arith)
+same_outcome (Err (Word p)) (Err (Word q)) e = ap (λ (x : ℕ). Err (Word x)) (ap (λ (r : Checked). r.number) e)
+same_outcome (Err (Word p)) (Err (AtPlaces n a b)) e = let z : ◌≡◌ {A = ℕ} 4 5 = ap (λ (r : Checked). r.code) e in absurd (omega arith)
+same_outcome (Err (AtPlaces n a b)) (Ok v) e = let z : ◌≡◌ {A = ℕ} 5 0 = ap (λ (r : Checked). r.code) e in absurd (omega arith)
+same_outcome (Err (AtPlaces n a b)) (Err (Word q)) e = let z : ◌≡◌ {A = ℕ} 5 4 = ap (λ (r : Checked). r.code) e in absurd (omega arith)
+same_outcome (Err (AtPlaces n a b)) (Err (AtPlaces m c d)) e =
+    rw (ap (λ (r : Checked). r.number) e, ap (λ (r : Checked). r.first) e, ap (λ (r : Checked). r.second) e)

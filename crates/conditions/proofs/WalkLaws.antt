@@ -4,10 +4,9 @@ use mathlib.Core.Bool.{Bool, true, false}
 use mathlib.Core.List.{List}
 use Prim.Native.Nat.{ℕ, suc, ◌+◌, ◌-◌, ◌<◌, ◌≤◌}
 use native.Mathlib.Nat.{sub-zero}
+use Rattle.std.specs.Prelude.{Some, None}
 use native.Mathlib.Omega.{arith}
-use Rattle.conditions.specs.declared.Finding.{Finding}
-use Rattle.conditions.specs.declared.Finding.TheVariants.{Holds, Fails}
-use Rattle.conditions.specs.Check.{Condition, firsts, seconds, test, in_row, in_rows, find, is_fails}
+use Rattle.conditions.specs.Check.{Condition, Finding, Holds, Fails, finding_of, firsts, seconds, test, in_row, in_rows, find, is_fails}
 use Rattle.conditions.proofs.TestLaws.{false-true}
 
 -- Where the walk of a condition begins.
@@ -65,6 +64,19 @@ module _ (right : ℕ → ℕ → Bool) (e i : ℕ) (l : i < e) where
         go : (x : Finding) → is_fails x ≡ false → rest right m e i x ≡ in_rows right m (e - (i + 1)) (i + 1)
         go Holds h = refl
         go (Fails a b) h = false-true (sym h)
+
+-- A walk with one place, by what is found.
+module _ (right : ℕ → Bool) (e i : ℕ) where
+  pub first_hit : i < e → right i ≡ false → in_rows (λ i j. right i) 1 (e - i) i ≡ finding_of (Some (i, 0))
+  unfolding finding_of
+  first_hit l f = one_hit (λ i j. right i) e i l f
+
+  pub first_on : i < e → right i ≡ true → in_rows (λ i j. right i) 1 (e - i) i ≡ in_rows (λ i j. right i) 1 (e - (i + 1)) (i + 1)
+  first_on l f = one_on (λ i j. right i) e i l f
+
+  pub first_end : e ≤ i → in_rows (λ i j. right i) 1 (e - i) i ≡ finding_of None
+  unfolding finding_of
+  first_end l = rows_end (λ i j. right i) 1 e i l
 
 -- A walk over one row alone.
 module _ (right : ℕ → Bool) (i : ℕ) where

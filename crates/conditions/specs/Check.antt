@@ -1,12 +1,10 @@
 -- Manual, section 4.7: the answer of the check: after shape, the first condition that fails, in order, with its least places.
-use Rattle.std.specs.Prelude.{◌≡◌, Bool, true, false, List, [], ◌∷◌, ℕ, zero, suc, ◌+◌, ◌<◌}
+use Rattle.std.specs.Prelude.{◌≡◌, Bool, true, false, List, [], ◌∷◌, ℕ, zero, suc, ◌+◌, ◌<◌, Option, Some, None}
 use Rattle.numbers.specs.Codes.{done, wrong_shape, check_fails}
 use Rattle.numbers.specs.Verdicts.{Good, Wrong}
 use Rattle.pack.specs.Image.{productions, states, scan_states, act}
 use Rattle.shape.specs.Shape.{shape}
 use Rattle.conditions.specs.declared.Checked.{Checked}
-use Rattle.conditions.specs.declared.Finding.{Finding}
-use Rattle.conditions.specs.declared.Finding.TheVariants.{Holds, Fails}
 use Rattle.conditions.specs.Conditions.{K1, K2, K3, K4, K5, K6, Reduces, k1, k2, k3, k4, k5, k6}
 
 -- The conditions. Each has a number; so many first places and so many second ones; a meaning at two places, and a test of it there.
@@ -59,6 +57,11 @@ test c4 img v j = k4 img v
 test c5 img s p = k5 img s p
 test c6 img s j = k6 img s
 
+-- A condition holds, or it fails at these places.
+pub data Finding : Type 0 where
+  Holds : Finding
+  Fails : ℕ → ℕ → Finding
+
 -- The least places at which a test fails: of n second places from j on, beside the first place i; of n first places from i on, each
 -- with m second ones.
 unfoldable pub in_row : (ℕ → Bool) → ℕ → ℕ → ℕ → Finding
@@ -69,9 +72,10 @@ unfoldable pub in_rows : (ℕ → ℕ → Bool) → ℕ → ℕ → ℕ → Find
 in_rows right m zero i = Holds
 in_rows right m (suc n) i = elim (in_row (right i) i m 0) [ Holds ↦ in_rows right m n (i + 1) | Fails first second ↦ Fails first second ]
 
--- Places that were found, or not, as a finding.
-unfoldable pub told : Bool → ℕ → ℕ → Finding
-told found first second = elim found [ true ↦ Fails first second | false ↦ Holds ]
+-- The places at which a condition fails, where it does, as a finding.
+unfoldable pub finding_of : Option (ℕ × ℕ) → Finding
+finding_of None = Holds
+finding_of (Some places) = Fails places.0 places.1
 
 -- A condition's least places.
 unfoldable pub find : Condition → List ℕ → Finding

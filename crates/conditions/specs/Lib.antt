@@ -1,4 +1,5 @@
 pub mod Check
 pub mod Conditions
 pub mod Edges
+pub mod Failing
 pub mod Tests

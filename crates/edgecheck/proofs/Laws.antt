@@ -1,11 +1,11 @@
 -- Laws of the tests of K4 and K6, as the code comes by them. Assumes nothing.
 use mathlib.Core.Path.{◌≡◌, refl, sym, ◌∙◌}
-use mathlib.Core.Bool.{Bool, true, false, ◌&&◌}
+use mathlib.Core.Bool.{Bool, true, false, not, ◌&&◌}
 use mathlib.Core.List.{List}
 use Prim.Native.Nat.{ℕ, zero, suc, ◌<◌, ◌≤◌}
 use native.Mathlib.Omega.{arith}
 use lib.Dec.{eqb, leb, ltb}
-use lib.Arith.{lt_of_le-ne}
+use lib.ListN.{get_or}
 use borrow.Author.Tests.{ne_eqb, eq-eqb, le-leb, lt-leb, lt-ltb, eqb-true, ltb-true}
 use Rattle.pack.specs.Image.{states, act}
 use Rattle.pack.specs.Laid.{Laid}
@@ -17,6 +17,11 @@ use Rattle.conditions.proofs.EdgeLaws.{enters_by, edge_on}
 use Rattle.edges.specs.Rows.{bit_at, all_in, only_in, Next}
 use Rattle.edges.specs.Tables.{Sources, Carried}
 
+-- A state is not 0.
+some_is : (n : ℕ) → leb 1 n ≡ not (eqb n 0)
+some_is zero = refl
+some_is (suc n) = le-leb 1 (suc n) (omega arith) ∙ sym (rw (ne_eqb (suc n) 0 (λ e. omega arith)))
+
 only_eq : (img : List ℕ) (x v : ℕ) → only_on img x v ≡ true → (y : ℕ) → y < symbols img → enters img v y ≡ true → y ≡ x
 unfolding only_on
 only_eq img x v o y l g = eqb-true y x (implies_gives (enters img v y) (eqb y x) (all_each (symbols img) (λ y. implies (enters img v y) (eqb y x)) o y l) g)
@@ -26,7 +31,7 @@ module _ (img : List ℕ) (laid : Laid img) {on : List ℕ} (carried : Carried i
   entered : (v y : ℕ) → enters img v y ≡ true → y < symbols img
   entered v y f = edge_on img laid.sized.t_most (enters_by img laid.sized.t_most f).1
 
-  pub on_only : (v x : ℕ) → v < 128 → only_in on v x ≡ only_on img x v
+  pub on_only : (v x : ℕ) → v < 128 → only_in (get_or on v 0) x ≡ only_on img x v
   unfolding all_in only_on enters
   on_only v x lv =
       alike (all_below 128 (λ y. implies (bit_at on v y) (eqb y x))) (all_below (symbols img) (λ y. implies (enters img v y) (eqb y x)))
@@ -38,47 +43,32 @@ module _ (img : List ℕ) (laid : Laid img) {on : List ℕ} (carried : Carried i
       few : (y : ℕ) → y < symbols img → y < 128
       few y l = omega (arith, laid.sized.n_most)
 
-  -- K4.
-  module _ (v x : ℕ) (lv : v < states img) (first : Next (bit_at on v) 128 0 x) where
-    pub k4_none : x ≡ 128 → true ≡ k4 img v
-    unfolding k4 enters
-    k4_none e = sym (all_true (symbols img) (λ y. implies (enters img v y) (leb 1 v && only_on img y v)) (λ y l. implies_all (enters img v y) (leb 1 v && only_on img y v) (λ f.
-        let few : y < 128 = omega (arith, laid.sized.n_most) in
-        false-true (sym (first.none y (omega arith) (omega arith)) ∙ carried.each v y (omega (arith, laid.sized.s_most)) few ∙ f))))
+  -- K4, by the least symbol on an edge in.
+  pub k4_none : (v : ℕ) → v < states img → Next (bit_at on v) 128 0 128 → k4 img v ≡ true
+  unfolding k4 enters
+  k4_none v lv first = all_true (symbols img) (λ y. implies (enters img v y) (leb 1 v && only_on img y v)) (λ y l. implies_all (enters img v y) (leb 1 v && only_on img y v) (λ f.
+      let few : y < 128 = omega (arith, laid.sized.n_most) in
+      false-true (sym (first.none y (omega arith) few) ∙ carried.each v y (omega (arith, laid.sized.s_most)) few ∙ f)))
 
-    there : (x ≡ 128 → ⊥) → enters img v x ≡ true
-    unfolding enters
-    there n =
-        let l : x < 128 = omega (arith, lt_of_le-ne first.most n) in
-        sym (carried.each v x (omega (arith, laid.sized.s_most)) l) ∙ first.there l
+  pub k4_is : (v x : ℕ) {r : Bool} → v < states img → x < 128 → Next (bit_at on v) 128 0 x → r ≡ only_in (get_or on v 0) x → (r && not (eqb v 0)) ≡ k4 img v
+  unfolding k4 enters
+  k4_is v x {r} lv lx first er =
+      alike (r && not (eqb v 0)) (all_below (symbols img) (λ y. implies (enters img v y) (leb 1 v && only_on img y v)))
+      (λ b. let o : only_on img x v ≡ true = sym (on_only v x few) ∙ sym er ∙ and_left r (not (eqb v 0)) b in
+      all_true (symbols img) (λ y. implies (enters img v y) (leb 1 v && only_on img y v)) (λ y l. implies_all (enters img v y) (leb 1 v && only_on img y v) (λ g.
+      let z : y ≡ x = only_eq img x v o y l g in
+      and_both (leb 1 v) (only_on img y v) (some_is v ∙ and_right r (not (eqb v 0)) b) (rw z o))))
+      (λ a. let f = implies_gives (enters img v x) (leb 1 v && only_on img x v) (all_each (symbols img) (λ y. implies (enters img v y) (leb 1 v && only_on img y v)) a x (entered v x there)) there in
+      and_both r (not (eqb v 0)) (er ∙ on_only v x few ∙ and_right (leb 1 v) (only_on img x v) f) (sym (some_is v) ∙ and_left (leb 1 v) (only_on img x v) f))
+    where
+      few : v < 128
+      few = omega (arith, laid.sized.s_most)
 
-    pub k4_start : (x ≡ 128 → ⊥) → v ≡ 0 → false ≡ k4 img v
-    unfolding k4 implies
-    k4_start n e =
-        let f = there n in
-        let z : leb 1 v ≡ false = lt-leb 1 v (omega arith) in
-        sym (all_false (symbols img) (λ y. implies (enters img v y) (leb 1 v && only_on img y v)) x (entered v x f) (rw (f, z)))
-
-    pub k4_only : {r : Bool} → (x ≡ 128 → ⊥) → (v ≡ 0 → ⊥) → r ≡ only_in on v x → r ≡ k4 img v
-    unfolding k4
-    k4_only n m er =
-        let f = there n in
-        er ∙ on_only v x (omega (arith, laid.sized.s_most))
-        ∙ alike (only_on img x v) (all_below (symbols img) (λ y. implies (enters img v y) (leb 1 v && only_on img y v)))
-        (λ o. all_true (symbols img) (λ y. implies (enters img v y) (leb 1 v && only_on img y v)) (λ y l. implies_all (enters img v y) (leb 1 v && only_on img y v) (λ g.
-        let z : y ≡ x = same_one o y l g in
-        and_both (leb 1 v) (only_on img y v) (le-leb 1 v (some v m)) (rw z o))))
-        (λ a. and_right (leb 1 v) (only_on img x v) (implies_gives (enters img v x) (leb 1 v && only_on img x v) (all_each (symbols img) (λ y. implies (enters img v y) (leb 1 v && only_on img y v)) a x (entered v x f)) f))
-      where
-        some : (n : ℕ) → (n ≡ 0 → ⊥) → 1 ≤ n
-        some zero h = absurd (h refl)
-        some (suc n) h = omega arith
-
-        same_one : only_on img x v ≡ true → (y : ℕ) → y < symbols img → enters img v y ≡ true → y ≡ x
-        same_one o y l g = only_eq img x v o y l g
+      there : enters img v x ≡ true
+      there = sym (carried.each v x few lx) ∙ first.there lx
 
 -- The sources of the edges into s are 0 alone.
-pub from_only : (img : List ℕ) → Laid img → {from : List ℕ} → Sources img (states img) from → (s : ℕ) → s < 128 → only_in from s 0 ≡ from_start img s
+pub from_only : (img : List ℕ) → Laid img → {from : List ℕ} → Sources img (states img) from → (s : ℕ) → s < 128 → only_in (get_or from s 0) 0 ≡ from_start img s
 unfolding all_in from_start
 from_only img laid {from} sources s ls =
     alike (all_below 128 (λ y. implies (bit_at from s y) (eqb y 0))) (all_below (states img) (λ r. implies (leads img r s) (eqb r 0)))
@@ -94,34 +84,26 @@ from_only img laid {from} sources s ls =
     few r l = omega (arith, laid.sized.s_most)
 
 -- K6.
-module _ (img : List ℕ) (laid : Laid img) {from on : List ℕ} (sources : Sources img (states img) from) (carried : Carried img (states img) on) (s : ℕ) (ls : s < states img) {a : ℕ} (ea : a ≡ act img s 0) where
-  few : s < 128
-  few = omega (arith, laid.sized.s_most)
-
-  pub k6_none : (a ≡ 1 → ⊥) → true ≡ k6 img s
+module _ (img : List ℕ) (laid : Laid img) {from on : List ℕ} (sources : Sources img (states img) from) (carried : Carried img (states img) on) (s : ℕ) (ls : s < states img) where
+  pub k6_none : (act img s 0 ≡ 1 → ⊥) → k6 img s ≡ true
   unfolding k6 implies
-  k6_none n = sym (rw (ne_eqb (act img s 0) 1 (λ z. n (ea ∙ z))))
+  k6_none n = rw (ne_eqb (act img s 0) 1 n)
 
-  accepts : a ≡ 1 → eqb (act img s 0) 1 ≡ true
-  accepts e = eq-eqb (act img s 0) 1 (sym ea ∙ e)
-
-  pub k6_start : a ≡ 1 → s ≡ 0 → false ≡ k6 img s
+  pub k6_is : {r t : Bool} → act img s 0 ≡ 1 → r ≡ only_in (get_or on s 0) 64 → t ≡ only_in (get_or from s 0) 0 → (r && (t && not (eqb s 0))) ≡ k6 img s
   unfolding k6 implies
-  k6_start e z = sym (rw (accepts e, lt-leb 1 s (omega arith)))
-
-  not_zero : (s ≡ 0 → ⊥) → leb 1 s ≡ true
-  not_zero n = go s n
+  k6_is {r} {t} e er et =
+      sym (rw (eq-eqb (act img s 0) 1 e, some_is s, ← on_only img laid carried s 64 few, ← from_only img laid sources s few, ← er, ← et) (turned (not (eqb s 0)) r t))
     where
-      go : (m : ℕ) → (m ≡ 0 → ⊥) → leb 1 m ≡ true
-      go zero h = absurd (h refl)
-      go (suc m) h = le-leb 1 (suc m) (omega arith)
+      few : s < 128
+      few = omega (arith, laid.sized.s_most)
 
-  pub k6_symbol : {r : Bool} → a ≡ 1 → (s ≡ 0 → ⊥) → r ≡ only_in on s 64 → r ≡ false → false ≡ k6 img s
-  unfolding k6 implies
-  k6_symbol e n er f = sym (rw (accepts e, not_zero n, sym (on_only img laid carried s 64 few) ∙ sym er ∙ f))
+      turned : (a b c : Bool) → (a && (b && c)) ≡ (b && (c && a))
+      turned true true true = refl
+      turned true true false = refl
+      turned true false c = refl
+      turned false true true = refl
+      turned false true false = refl
+      turned false false c = refl
 
-  pub k6_from : {q r : Bool} → a ≡ 1 → (s ≡ 0 → ⊥) → q ≡ only_in on s 64 → q ≡ true → r ≡ only_in from s 0 → r ≡ k6 img s
-  unfolding k6 implies
-  k6_from e n eq f er =
-      er ∙ from_only img laid sources s few
-      ∙ sym (rw (accepts e, not_zero n, sym (on_only img laid carried s 64 few) ∙ sym eq ∙ f))
+  pub k6_out : {r : Bool} → act img s 0 ≡ 1 → r ≡ only_in (get_or on s 0) 64 → r ≡ false → false ≡ k6 img s
+  k6_out {r} e er f = rw f at (k6_is {r = r} e er refl)

@@ -8,6 +8,7 @@ use lib.Dec.{eqb, leb, ltb}
 use lib.ListN.{replicate}
 use borrow.Author.Tests.{eq-eqb, ne_eqb, le-leb, lt-leb, lt-ltb, le-ltb, eqb-true, eqb-false, leb-true, ltb-true, ltb-false}
 use Rattle.numbers.specs.Verdicts.{Good}
+use Rattle.sets.specs.Sets.{member}
 use Rattle.pack.specs.Image.{terminals, nonterminals, states, first_nonterminal, act, goto}
 use Rattle.shape.specs.Shape.{shape}
 use Rattle.shape.proofs.Good.{good_laid}
@@ -66,15 +67,15 @@ module _ (img : List ℕ) (s : ℕ) where
   unfoldable pub reduces_below : ℕ → ℕ → Bool
   reduces_below t p = some_below t (λ x. eqb (act img s x) (3 + 2 * p))
 
-  pub reduces_none : Whole (reduces_below 0) 0 0
+  pub reduces_none : Whole (reduces_below 0) 0
   unfolding reduces_below some_below
   reduces_none = whole_none (λ y. refl)
 
-  pub reduces_more : (t : ℕ) {code to low high : ℕ} → code ≡ act img s t → to ≡ reduce_of code → Whole (λ y. either (reduces_below t y) (eqb to (1 + y))) low high → Whole (reduces_below (t + 1)) low high
+  pub reduces_more : (t : ℕ) {code to by set : ℕ} → Whole (reduces_below t) by → code ≡ act img s t → to ≡ reduce_of code → Whole (λ y. either (member by y) (eqb to (1 + y))) set → Whole (reduces_below (t + 1)) set
   unfolding reduces_below
-  reduces_more t e f w = whole_same (λ y l. rw (f, e, reduce_code (act img s t) y) (sym (some_more t (λ x. eqb (act img s x) (3 + 2 * y))))) w
+  reduces_more t b e f w = whole_same (λ y l. rw (b.each y l, f, e, reduce_code (act img s t) y) (sym (some_more t (λ x. eqb (act img s x) (3 + 2 * y))))) w
 
-  pub reduces_all : {low high : ℕ} → Whole (reduces_below (terminals img)) low high → Whole (reduces img s) low high
+  pub reduces_all : {set : ℕ} → Whole (reduces_below (terminals img)) set → Whole (reduces img s) set
   unfolding reduces_below reduces
   reduces_all w = w
 
@@ -110,7 +111,6 @@ module _ (img : List ℕ) (good : shape img ≡ Good) where
   pub carried_more : {s : ℕ} {row after : List ℕ} → Carried img s row → PutEach (edge_to img s) (symbols img) row after → Carried img (s + 1) after
   unfolding is_edge
   carried_more {s} t p = record {
-    size = p.size ∙ t.size;
     each = λ v x lv lx. p.each v x lv lx ∙ rw (t.each v x lv lx, some_more s (λ w. is_edge img w x v)) (one v x (ltb x (symbols img)) refl);
   }
     where
@@ -135,13 +135,11 @@ module _ (img : List ℕ) {s : ℕ} {row after : List ℕ} where
   pub sources_more : Sources img s row → PutOne (edge_to img s) s (symbols img) row after → Sources img (s + 1) after
   unfolding leads is_edge
   sources_more t p = record {
-    size = p.size ∙ t.size;
     each = λ v u lv lu. p.each v u lv lu ∙ rw (t.each v u lv lu) (below_one_more u s (λ w. some_below (symbols img) (λ x. eqb (edge_to img w x) (1 + v))) (eqb u s) refl);
   }
 
   pub goers_more : nonterminals img ≤ 32 → Goers img s row → PutOne (λ (a : ℕ). present (goto img s a) a) s (nonterminals img) row after → Goers img (s + 1) after
   goers_more few t p = record {
-    size = p.size ∙ t.size;
     each = λ a u la lu. p.each a u (omega arith) lu ∙ rw (t.each a u la lu, one a la) (below_one_more u s (λ w. leb 1 (goto img w a)) (eqb u s) refl);
   }
     where
@@ -160,12 +158,12 @@ module _ (img : List ℕ) {s : ℕ} {row after : List ℕ} where
 
 -- Empty rows, before the first state.
 module _ (img : List ℕ) where
-  pub no_sources : Sources img 0 (replicate 256 0)
-  no_sources = record { size = refl; each = λ v u lv lu. empty_row v u lv lu ∙ rw (le-ltb u 0 (omega arith)) }
+  pub no_sources : Sources img 0 (replicate 128 0)
+  no_sources = record { each = λ v u lv lu. empty_row v u lv lu ∙ rw (le-ltb u 0 (omega arith)) }
 
-  pub none_carried : Carried img 0 (replicate 256 0)
+  pub none_carried : Carried img 0 (replicate 128 0)
   unfolding some_below
-  none_carried = record { size = refl; each = λ v x lv lx. empty_row v x lv lx }
+  none_carried = record { each = λ v x lv lx. empty_row v x lv lx }
 
-  pub no_goers : nonterminals img ≤ 32 → Goers img 0 (replicate 256 0)
-  no_goers few = record { size = refl; each = λ a u la lu. empty_row a u (omega arith) lu ∙ rw (le-ltb u 0 (omega arith)) }
+  pub no_goers : nonterminals img ≤ 32 → Goers img 0 (replicate 128 0)
+  no_goers few = record { each = λ a u la lu. empty_row a u (omega arith) lu ∙ rw (le-ltb u 0 (omega arith)) }

@@ -1,152 +1,131 @@
-// Rows of sets: 128 sets of numbers below 128 in 256 words. (There are no integers of 128 bits to hold such a set.)
-ghost use Rattle.std.specs.Prelude.{◌≡◌, ◌+◌, ◌*◌, ◌^◌, ◌<◌, ◌≤◌, eqb, length, set};
+// Sets of numbers below 128, and rows of 128 of them. A contract sees a set as the number whose bit n says whether n is in it.
+ghost use Rattle.std.specs.Prelude.{◌≡◌, ◌+◌, ◌<◌, ◌≤◌, eqb, bit_or, MatchOption};
 ghost use Rattle.sets.specs.Sets.{member};
-ghost use Rattle.conditions.specs.Tests.{all_below, implies};
-ghost use Rattle.edges.specs.Rows.{bit_at, Put, Half, all_in, only_in, Next, NextOf, With, Made};
+ghost use Rattle.edges.specs.Rows.{cell_of, either, Put, Whole, all_in, only_in, Next};
 
-// What `next` gives where there is no such number.
-pub const NONE: usize = 128;
+use std::marker::Model;
+use std::ops::BitOr;
 
-// The set of one number below 64.
-fn single(b: usize) -> u64
-    requires { b < 64 }
-    ensures { result ≡ 2 ^ b }
-{
-    1u64 << b
+// A set of numbers below 128.
+#[derive(Clone, Copy, Debug, PartialEq, Eq)]
+pub struct NumberSet {
+    bits: u128,
 }
 
-// Whether b is in set v.
-pub fn bit(row: &[u64; 256], v: usize, b: usize) -> bool
-    requires { (v < 128) × (b < 128) }
-    ensures { result ≡ bit_at row.now v b }
-{
-    sets::member(row[2 * v + b / 64], b % 64)
+impl Model for NumberSet {
+    ghost use Rattle.std.specs.Prelude.{ℕ, ◌<◌, ◌^◌};
+
+    ghost Value = { ℕ };
+
+    ghost view = { λ s. s.bits };
+
+    ghost invariant = { λ s. s.bits < 2 ^ 128 };
+
+    ghost inverse = { λ n. record { bits = n } };
 }
 
-// Puts b into set to - 1, and nothing where to is 0.
-pub fn put(row: &mut [u64; 256], to: usize, b: usize)
-    requires row_len { length row.old ≡ 256 }
-    requires to_bound { (to ≤ 128) × (b < 128) }
-    ensures { Put row.old to b row.new }
-{
-    if to != 0 {
-        let at = 2 * (to - 1) + b / 64;
-        row[at] = row[at] | single(b % 64);
-    }
-}
+impl BitOr for NumberSet {
+    type Output = Self;
 
-// Half h of the set of x alone.
-fn half(x: usize, h: usize) -> u64
-    requires { h < 2 }
-    ensures { Half (λ y. eqb y x) h result }
-{
-    if x / 64 == h {
-        return single(x % 64);
-    }
-    0
-}
+    ghost bitor_gives = { λ a b r. r ≡ bit_or a b };
 
-// Whether every number below 64 in the first word is in the second.
-fn inside(a: u64, b: u64) -> bool
-    ensures { result ≡ all_below 64 (λ t. implies (member a t) (member b t)) }
-{
-    a & b == a
-}
-
-// Whether every number in set v is x.
-pub fn only(row: &[u64; 256], v: usize, x: usize) -> bool
-    requires { v < 128 }
-    ensures { result ≡ only_in row.now v x }
-{
-    if inside(row[2 * v], half(x, 0)) {
-        return inside(row[2 * v + 1], half(x, 1));
-    }
-    false
-}
-
-// Whether every number in set v of the first row is in set w of the second.
-pub fn contained(row: &[u64; 256], v: usize, other: &[u64; 256], w: usize) -> bool
-    requires { (v < 128) × (w < 128) }
-    ensures { result ≡ all_in row.now v (bit_at other.now w) }
-{
-    if inside(row[2 * v], other[2 * w]) {
-        return inside(row[2 * v + 1], other[2 * w + 1]);
-    }
-    false
-}
-
-// The least number of a word that is b or more, or 64.
-pub fn next_in(word: u64, b: usize) -> usize
-    requires { b ≤ 64 }
-    ensures { Next (member word) 64 b result }
-{
-    if b < 64 {
-        let rest = word >> b;
-        if rest != 0 {
-            return b + sets::lowest(rest) as usize;
+    #[tactic(auto, using(crate::proofs::RowLaws::union_fits))]
+    fn bitor(self, other: Self) -> Self {
+        NumberSet {
+            bits: self.bits | other.bits,
         }
     }
-    64
 }
 
-// The least number of a set of two words that is b or more, or NONE.
-pub fn next_of(low: u64, high: u64, b: usize) -> usize
-    requires { b ≤ 128 }
-    ensures { NextOf low high b result }
-{
-    if b < 64 {
-        let a = next_in(low, b);
-        if a < 64 {
-            return a;
+impl NumberSet {
+    pub const EMPTY: NumberSet = NumberSet { bits: 0 };
+
+    // The set of one number; a number of 128 or more is in none.
+    pub fn of(n: usize) -> Self
+        ensures { Whole (λ y. eqb y n) result }
+    {
+        if n < 128 {
+            return NumberSet { bits: 1 << n };
         }
-        return 64 + next_in(high, 0);
+        NumberSet::EMPTY
     }
-    64 + next_in(high, b - 64)
-}
 
-// The least number in set v that is b or more, or NONE.
-pub fn next(row: &[u64; 256], v: usize, b: usize) -> usize
-    requires { (v < 128) × (b ≤ 128) }
-    ensures { Next (bit_at row.now v) 128 b result }
-{
-    next_of(row[2 * v], row[2 * v + 1], b)
-}
-
-// A set by itself: its numbers below 64, and those from 64 on.
-#[derive(Clone, Copy)]
-pub struct Wide {
-    pub low: u64,
-    pub high: u64,
-}
-
-// The set of two words with number to - 1, and as it is where to is 0.
-pub fn with(low: u64, high: u64, to: usize) -> Wide
-    ensures { With low high to result.low result.high }
-{
-    if to == 0 {
-        return Wide { low, high };
+    // Whether a number is in the set.
+    #[tactic(auto, using(crate::proofs::RowLaws::member_bit))]
+    pub fn contains(self, n: usize) -> bool
+        requires { n < 128 }
+        ensures { result ≡ member self n }
+    {
+        (self.bits >> n) % 2 == 1
     }
-    Wide {
-        low: low | half(to - 1, 0),
-        high: high | half(to - 1, 1),
+
+    // Whether every number of the set is in the other.
+    #[tactic(auto, using(crate::proofs::RowLaws::inside_is))]
+    pub fn is_subset(self, other: Self) -> bool
+        ensures { result ≡ all_in self (member other) }
+    {
+        self.bits & other.bits == self.bits
+    }
+
+    // Whether every number of the set is n.
+    #[tactic(auto, using(crate::proofs::RowLaws::all_same))]
+    pub fn has_only(self, n: usize) -> bool
+        ensures { result ≡ only_in self n }
+    {
+        self.is_subset(NumberSet::of(n))
+    }
+
+    // The set with a number besides, where there is one.
+    #[tactic(auto, using(crate::proofs::RowLaws::with_none, crate::proofs::RowLaws::with_one), unfolding(crate::specs::Rows::cell_of))]
+    pub fn with(self, number: Option<usize>) -> Self
+        ensures { Whole (λ y. either (member self y) (eqb (cell_of number) (1 + y))) result }
+    {
+        match number {
+            Some(n) => self | NumberSet::of(n),
+            None => self,
+        }
+    }
+
+    // The least number of the set that is `from` or more.
+    #[tactic(auto, using(crate::proofs::RowLaws::next_there, crate::proofs::RowLaws::next_none, crate::proofs::RowLaws::next_past))]
+    pub fn next(self, from: usize) -> Option<usize>
+        requires { from ≤ 128 }
+        ensures { MatchOption result (Next (member self) 128 from 128) (λ n. (n < 128) × Next (member self) 128 from n) }
+    {
+        if from == 128 {
+            return None;
+        }
+        let rest = self.bits >> from;
+        if rest == 0 {
+            return None;
+        }
+        Some(from + rest.trailing_zeros() as usize)
     }
 }
 
-// Makes set v anew, of two words.
-pub fn write(row: &mut [u64; 256], v: usize, low: u64, high: u64)
-    requires row_len { length row.old ≡ 256 }
-    requires v_bound { v < 128 }
-    ensures { row.new ≡ set (set row.old (2 * v) low) (2 * v + 1) high }
+// The least terminal of a set that is `from` or more.
+#[tactic(auto, using(crate::proofs::RowLaws::next_there64, crate::proofs::RowLaws::next_none64, crate::proofs::RowLaws::next_past))]
+pub fn next_in(terminals: u64, from: usize) -> Option<usize>
+    requires { from ≤ 64 }
+    ensures { MatchOption result (Next (member terminals) 64 from 64) (λ t. (t < 64) × Next (member terminals) 64 from t) }
 {
-    row[2 * v] = low;
-    row[2 * v + 1] = high;
+    if from == 64 {
+        return None;
+    }
+    let rest = terminals >> from;
+    if rest == 0 {
+        return None;
+    }
+    Some(from + rest.trailing_zeros() as usize)
 }
 
-// Makes set i anew, with x alone.
-pub fn alone(row: &mut [u64; 256], i: usize, x: usize)
-    requires row_len { length row.old ≡ 256 }
-    requires i_bound { i < 128 }
-    ensures { Made row.old i (λ y. eqb y x) row.new }
+// Puts b into a set of the row, where one is given.
+#[tactic(auto, using(crate::proofs::RowLaws::put_none, crate::proofs::RowLaws::put_one), unfolding(crate::specs::Rows::cell_of))]
+pub fn put(row: &mut [NumberSet; 128], to: Option<usize>, b: usize)
+    requires { cell_of to ≤ 128 }
+    ensures { Put row.old (cell_of to) b row.new }
 {
-    write(row, i, half(x, 0), half(x, 1));
+    if let Some(v) = to {
+        row[v] = row[v] | NumberSet::of(b);
+    }
 }

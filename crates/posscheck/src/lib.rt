@@ -1,15 +1,14 @@
 // K2, the condition on what is possible: its test, and the search for the first scan state at which it fails.
 #![tactic(auto)]
 
-ghost use Rattle.std.specs.Prelude.{◌≡◌, true, false, ◌<◌, ◌≤◌};
+ghost use Rattle.std.specs.Prelude.{◌≡◌, ◌<◌, ◌≤◌};
 ghost use Rattle.pack.specs.Image.{scan_states};
 ghost use Rattle.pack.specs.Laid.{Laid};
 ghost use Rattle.numbers.specs.Verdicts.{Good};
 ghost use Rattle.shape.specs.Shape.{shape};
 ghost use Rattle.conditions.specs.Conditions.{within, k2};
-ghost use Rattle.conditions.specs.Check.{c2, find};
+ghost use Rattle.conditions.specs.Check.{c2, finding_of, find};
 
-use conditions::Finding;
 use pack::image;
 
 // Whether a move of q leads nowhere, or to a state whose poss is within that of q.
@@ -18,10 +17,10 @@ fn within(img: &[u16], q: usize, code: usize) -> bool
     requires q_bound { (q < scan_states img.now) × (code ≤ scan_states img.now) }
     ensures { result ≡ within img.now q code }
 {
-    if code == 0 {
-        return true;
+    match code.checked_sub(1) {
+        Some(next) => sets::subset(image::poss(img, next), image::poss(img, q)),
+        None => true,
     }
-    sets::subset(image::poss(img, code - 1), image::poss(img, q))
 }
 
 // K2 of scan state q.
@@ -32,35 +31,23 @@ fn k2(img: &[u16], q: usize) -> bool
     ensures { result ≡ k2 img.now q }
 {
     let m = image::acc(img, q) | image::rej(img, q);
-    if sets::subset(m, image::poss(img, q)) {
-        let n = image::classes(img);
-        let mut c: usize = 0;
-        while c < n {
-            if within(img, q, image::move_of(img, q, c)) {
-                c += 1;
-            } else {
-                return false;
-            }
-        }
-        return true;
+    if !sets::subset(m, image::poss(img, q)) {
+        return false;
     }
-    false
+    for c in 0..image::classes(img) {
+        if !within(img, q, image::move_of(img, q, c)) {
+            return false;
+        }
+    }
+    true
 }
 
 // The first scan state at which K2 fails.
-pub fn find_k2(img: &[u16]) -> Finding
+#[tactic(auto, unfolding(conditions::specs::Check::find, conditions::specs::Check::firsts, conditions::specs::Check::seconds, conditions::specs::Check::test))]
+pub fn find_k2(img: &[u16]) -> Option<(usize, usize)>
     requires laid { Laid img.now }
     requires good_shape { shape img.now ≡ Good }
-    ensures { result ≡ find c2 img.now }
+    ensures { finding_of result ≡ find c2 img.now }
 {
-    let n = image::scan_states(img);
-    let mut q: usize = 0;
-    while q < n {
-        if k2(img, q) {
-            q += 1;
-        } else {
-            return Finding::Fails(q, 0);
-        }
-    }
-    Finding::Holds
+    conditions::first_wrong(image::scan_states(img), |q| k2(img, q))
 }

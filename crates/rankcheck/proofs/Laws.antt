@@ -1,6 +1,6 @@
 -- Laws of the test of K1, as the code comes by them. Assumes nothing.
 use mathlib.Core.Path.{◌≡◌, refl, sym, ap, ap₂, ◌∙◌}
-use mathlib.Core.Bool.{Bool, true, false}
+use mathlib.Core.Bool.{Bool, true, false, not, beq}
 use mathlib.Core.List.{List}
 use Prim.Native.Nat.{ℕ, ◌<◌}
 use native.Mathlib.Omega.{arith}
@@ -11,14 +11,35 @@ use Rattle.sets.proofs.Laws.{has-lt, has-or}
 use Rattle.pack.specs.Image.{acc, rej}
 use Rattle.conditions.specs.Tests.{same, implies}
 use Rattle.conditions.specs.Conditions.{matched, outranked}
-use Rattle.conditions.proofs.TestLaws.{false-true, not_true, member-has, has-member}
+use Rattle.conditions.proofs.TestLaws.{false-true, not_true, same_is, same_all, member-has, has-member}
 use Rattle.edges.specs.Rows.{Next}
 
+-- Whether two tests differ.
+agreed : (a b : Bool) → not (beq a b) ≡ false → a ≡ b
+agreed true true d = refl
+agreed true false d = cc
+agreed false true d = cc
+agreed false false d = refl
+
+apart : (a b : Bool) → not (beq a b) ≡ true → a ≡ b → ⊥
+apart true true d e = false-true d
+apart true false d e = cc
+apart false true d e = cc
+apart false false d e = false-true d
+
 -- The test of a terminal for K1.
-pub k1_test : (img : List ℕ) (q t : ℕ) {rj m : ℕ} {r a b x : Bool} → rj ≡ rej img q → m ≡ matched img q → a ≡ member rj t → b ≡ outranked img m t
-    → r ≡ same a b → r ≡ x → same (member (rej img q) t) (outranked img (matched img q) t) ≡ x
-k1_test img q t e f ea eb er ex =
-    ap₂ (λ (u v : Bool). same u v) (ap (λ (z : ℕ). member z t) (sym e) ∙ sym ea) (ap (λ (z : ℕ). outranked img z t) (sym f) ∙ sym eb) ∙ sym er ∙ ex
+module _ (img : List ℕ) (q t : ℕ) {rj m : ℕ} {a b : Bool} (er : rj ≡ rej img q) (em : m ≡ matched img q) (ea : a ≡ member rj t) (eb : b ≡ outranked img m t) where
+  abbrev pub one : Bool → Type 0
+  one x = same (member (rej img q) t) (outranked img (matched img q) t) ≡ x
+
+  pub k1_alike : not (beq a b) ≡ false → one true
+  k1_alike d =
+      let e : a ≡ b = agreed a b d in
+      let z : member (rej img q) t ≡ outranked img (matched img q) t = sym (ea ∙ ap (λ (x : ℕ). member x t) er) ∙ e ∙ eb ∙ ap (λ (x : ℕ). outranked img x t) em in
+      same_all _ _ (λ h. sym z ∙ h) (λ h. z ∙ h)
+
+  pub k1_apart : not (beq a b) ≡ true → one false
+  k1_apart d = not_true _ (λ e. apart a b d (ea ∙ ap (λ (x : ℕ). member x t) er ∙ same_is _ _ e ∙ sym (eb ∙ ap (λ (x : ℕ). outranked img x t) em)))
 
 -- What does not match is neither rejected nor outranked.
 pub k1_past : (img : List ℕ) (q : ℕ) {m b t : ℕ} → m ≡ matched img q → Next (member m) 64 b t

@@ -6,10 +6,13 @@ use Prim.Native.Nat.{ℕ, zero, suc, ◌+◌, ◌-◌, ◌<◌, ◌≤◌}
 use native.Mathlib.Numerals.{add-one}
 use native.Mathlib.Omega.{arith}
 use lib.Dec.{eqb, leb, ltb}
-use lib.ListN.{length}
+use lib.ListN.{get_or}
 use borrow.Author.Tests.{le-leb, lt-ltb, le-ltb, eqb-true, leb-true, leb-false, ltb-true, ltb-false}
-use Rattle.pack.specs.Image.{nonterminals, states, lhs, len, symbol, goto}
+use Rattle.numbers.specs.Verdicts.{Good}
+use Rattle.pack.specs.Image.{most_symbols, nonterminals, productions, states, lhs, len, symbol, goto}
 use Rattle.pack.specs.Laid.{Laid}
+use Rattle.shape.specs.Shape.{shape}
+use Rattle.shape.proofs.GoodParser.{good_len, good_lhs}
 use Rattle.conditions.specs.Tests.{all_below, some_below, implies}
 use Rattle.conditions.specs.Edges.{symbols, leads, enters, only_on, reached}
 use Rattle.conditions.specs.Conditions.{steps, ends}
@@ -20,16 +23,21 @@ use Rattle.edges.specs.Tables.{Sources, Carried, Goers}
 use Rattle.edges.proofs.RowLaws.{some_same, some_past}
 use Rattle.walkback.specs.Walked.{Walked}
 
+-- A production of a pack has few symbols, and its left side is a nonterminal.
+pub len_most : (img : List ℕ) → shape img ≡ Good → (p : ℕ) → p < productions img → len img p ≤ most_symbols
+len_most img good p l = good_len img good p l
+
+pub lhs_most : (img : List ℕ) → shape img ≡ Good → (p : ℕ) → p < productions img → lhs img p < nonterminals img
+lhs_most img good p l = good_lhs img good p l
+
 -- The walk back, step by step.
 module _ (img : List ℕ) (laid : Laid img) (s : ℕ) (ls : s < states img) where
   small : (u : ℕ) → u < states img → u < 128
   small u l = omega (arith, laid.sized.s_most)
 
-  pub walked_start : {row after into : List ℕ} → length into ≡ 256 → Made row 0 (λ u. eqb u s) after → Walked img s 0 after into
+  pub walked_start : {row after into : List ℕ} → Made row 0 (λ u. eqb u s) after → Walked img s 0 after into
   unfolding reached
-  walked_start {row} {after} {into} long m = record {
-    size = m.size;
-    into_size = long;
+  walked_start {row} {after} {into} m = record {
     each = λ i u li lu. go i u li lu (eqb u s) refl;
     symbols = λ i x l lx. absurd (omega arith);
   }
@@ -46,14 +54,14 @@ module _ (img : List ℕ) (laid : Laid img) (s : ℕ) (ls : s < states img) wher
       go (suc i) u li lu b e = absurd (omega arith)
 
   pub walked_less : {d i : ℕ} {back into : List ℕ} → i ≤ d → Walked img s d back into → Walked img s i back into
-  walked_less l w = record { size = w.size; into_size = w.into_size; each = λ j u lj lu. w.each j u (omega arith) lu; symbols = λ j x lj lx. w.symbols j x (omega arith) lx }
+  walked_less l w = record { each = λ j u lj lu. w.each j u (omega arith) lu; symbols = λ j x lj lx. w.symbols j x (omega arith) lx }
 
   module _ {from on : List ℕ} (sources : Sources img (states img) from) (carried : Carried img (states img) on) {d : ℕ} {back into : List ℕ} (w : Walked img s d back into) where
     here : (v : ℕ) → v < states img → bit_at back d v ≡ reached img s d v
     here v lv = w.each d v (omega arith) (small v lv) ∙ rw (lt-ltb v (states img) lv)
 
     -- No number but a state's is in a set of the walk.
-    only_states : (row : List ℕ) (y : ℕ) → joined row back d y ≡ some_below (states img) (λ v. bit_at back d v && bit_at row v y)
+    only_states : (row : List ℕ) (y : ℕ) → joined row (get_or back d 0) y ≡ some_below (states img) (λ v. bit_at back d v && bit_at row v y)
     unfolding joined
     only_states row y =
         sym (some_past (states img) 128 (λ v. bit_at back d v && bit_at row v y) laid.sized.s_most (λ v l m. rw (w.each d v (omega arith) m, le-ltb v (states img) l)))
@@ -64,7 +72,7 @@ module _ (img : List ℕ) (laid : Laid img) (s : ℕ) (ls : s < states img) wher
     both_ways false true = refl
     both_ways false false = refl
 
-    stepped : (u : ℕ) → u < 128 → (b : Bool) → ltb u (states img) ≡ b → joined from back d u ≡ (ltb u (states img) && reached img s (d + 1) u)
+    stepped : (u : ℕ) → u < 128 → (b : Bool) → ltb u (states img) ≡ b → joined from (get_or back d 0) u ≡ (ltb u (states img) && reached img s (d + 1) u)
     unfolding reached
     stepped u lu true e =
         only_states from u ∙ rw (e, add-one d)
@@ -76,16 +84,14 @@ module _ (img : List ℕ) (laid : Laid img) (s : ℕ) (ls : s < states img) wher
         no_one true = refl
         no_one false = refl
 
-    collected : (x : ℕ) → x < 128 → joined on back d x ≡ some_below (states img) (λ v. reached img s d v && enters img v x)
+    collected : (x : ℕ) → x < 128 → joined on (get_or back d 0) x ≡ some_below (states img) (λ v. reached img s d v && enters img v x)
     unfolding enters
     collected x lx =
         only_states on x ∙ some_same (states img) (λ v. bit_at back d v && bit_at on v x) (λ v. reached img s d v && enters img v x)
         (λ v lv. ap₂ (λ (a b : Bool). a && b) (here v lv) (carried.each v x (small v lv) lx))
 
-    pub walked_more : {back' into' : List ℕ} → Made into d (joined on back d) into' → Made back (d + 1) (joined from back d) back' → Walked img s (d + 1) back' into'
+    pub walked_more : {back' into' : List ℕ} → Made into d (joined on (get_or back d 0)) into' → Made back (d + 1) (joined from (get_or back d 0)) back' → Walked img s (d + 1) back' into'
     walked_more {back'} {into'} m t = record {
-      size = t.size;
-      into_size = m.size;
       each = λ i u li lu. go i u li lu (leb i d) refl;
       symbols = λ i x li lx. on_go i x li lx (leb d i) refl;
     }
@@ -118,7 +124,7 @@ module _ (img : List ℕ) (laid : Laid img) (s p : ℕ) {back into : List ℕ} (
         let r : reached img s i 0 ≡ true = sym (before i 0 (omega arith) least) ∙ sym e ∙ f in
         sym (all_false (states img) (λ u. implies (reached img s i u) (leb 1 u && only_on img (symbol img p (len img p - 1 - i)) u)) 0 least (rw r))
 
-    pub step_only : {b r : Bool} {x n : ℕ} → b ≡ bit_at back i 0 → b ≡ false → r ≡ only_in into i x → x ≡ symbol img p (n - 1 - i) → n ≡ len img p → r ≡ steps img s p i
+    pub step_only : {b r : Bool} {x n : ℕ} → b ≡ bit_at back i 0 → b ≡ false → r ≡ only_in (get_or into i 0) x → x ≡ symbol img p (n - 1 - i) → n ≡ len img p → r ≡ steps img s p i
     unfolding one steps all_in only_on
     step_only {x = x} e f er ex en =
         er ∙ alike (all_below 128 (λ y. implies (bit_at into i y) (eqb y x))) (all_below (states img) one) forth back'
@@ -149,7 +155,7 @@ module _ (img : List ℕ) (laid : Laid img) (s p : ℕ) {back into : List ℕ} (
                 let o = and_right (leb 1 v) (only_on img (symbol img p (len img p - 1 - i)) v) (implies_gives (reached img s i v) (leb 1 v && only_on img (symbol img p (len img p - 1 - i)) v) (all_each (states img) one a v q.1) r) in
                 rw x_is (implies_gives (enters img v y) (eqb y (symbol img p (len img p - 1 - i))) (all_each (symbols img) (λ y. implies (enters img v y) (eqb y (symbol img p (len img p - 1 - i)))) o y (edge_on img laid.sized.t_most (enters_by img laid.sized.t_most g).1)) g)
 
-  pub end_is : {goes : List ℕ} {r : Bool} {n a : ℕ} → Goers img (states img) goes → lhs img p < nonterminals img → n ≡ len img p → a ≡ lhs img p → r ≡ all_in back n (bit_at goes a) → r ≡ ends img s p
+  pub end_is : {goes : List ℕ} {r : Bool} {n a : ℕ} → Goers img (states img) goes → lhs img p < nonterminals img → n ≡ len img p → a ≡ lhs img p → r ≡ all_in (get_or back n 0) (bit_at goes a) → r ≡ ends img s p
   unfolding ends all_in
   end_is {goes} {r} {n} {a} g la en ea er =
       er ∙ ap₂ (λ (k b : ℕ). all_below 128 (λ u. implies (bit_at back k u) (bit_at goes b u))) en ea
@@ -163,11 +169,3 @@ module _ (img : List ℕ) (laid : Laid img) (s p : ℕ) {back into : List ℕ} (
       let r = and_right (ltb u (states img)) (reached img s (len img p) u) f in
       g.each (lhs img p) u la lu ∙ and_both (ltb u (states img)) (leb 1 (goto img u (lhs img p))) l
       (implies_gives (reached img s (len img p) u) (leb 1 (goto img u (lhs img p))) (all_each (states img) (λ u. implies (reached img s (len img p) u) (leb 1 (goto img u (lhs img p)))) e u (ltb-true u (states img) l)) r))))
-
--- What holds from i on and just before it holds from there on.
-pub one_down : {n : ℕ} (right : ℕ → Bool) (i : ℕ) → ((j : ℕ) → i ≤ j → j < n → right j ≡ true) → right (i - 1) ≡ true → (j : ℕ) → i - 1 ≤ j → j < n → right j ≡ true
-one_down {n} right i h e j l m = go (ltb j i) refl
-  where
-    go : (b : Bool) → ltb j i ≡ b → right j ≡ true
-    go true f = let z : j ≡ i - 1 = omega (arith, ltb-true j i f) in rw z e
-    go false f = h j (ltb-false j i f) m

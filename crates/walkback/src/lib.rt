@@ -1,7 +1,7 @@
 // The walk back of K5 from a parse state: its rows, step by step, and the tests of a production over them.
 #![tactic(auto)]
 
-ghost use Rattle.std.specs.Prelude.{◌≡◌, true, ◌<◌, ◌≤◌};
+ghost use Rattle.std.specs.Prelude.{◌≡◌, ◌<◌, ◌≤◌};
 ghost use Rattle.pack.specs.Image.{most_symbols, states, productions, len};
 ghost use Rattle.pack.specs.Laid.{Laid};
 ghost use Rattle.numbers.specs.Verdicts.{Good};
@@ -11,70 +11,66 @@ ghost use Rattle.conditions.specs.Conditions.{steps, ends};
 ghost use Rattle.edges.specs.Tables.{Sources, Carried, Goers};
 ghost use Rattle.walkback.specs.Walked.{Walked};
 
-use edges::rows;
+use edges::rows::NumberSet;
 use pack::image;
 
-// Steps back from s until at least so many are made; gives how many are.
+// The rows of a walk back, and how many steps are made: the states that each step reaches, and the symbols on all edges into those.
+#[derive(Drop)]
+pub struct Walk {
+    pub back: [NumberSet; 128],
+    pub into: [NumberSet; 128],
+    pub depth: usize,
+}
+
+// Steps back from s until at least so many are made.
 pub fn extend(
     img: &[u16],
     s: usize,
-    from: &[u64; 256],
-    on: &[u64; 256],
-    back: &mut [u64; 256],
-    into: &mut [u64; 256],
-    depth: usize,
+    from: &[NumberSet; 128],
+    on: &[NumberSet; 128],
+    walk: &mut Walk,
     want: usize,
-) -> usize
+)
     requires laid { Laid img.now }
-    requires s_bound { (s < states img.now) × ((depth ≤ most_symbols) × (want ≤ most_symbols)) }
+    requires s_bound { (s < states img.now) × ((walk.old.depth ≤ most_symbols) × (want ≤ most_symbols)) }
     requires edge_tables { (Sources img.now (states img.now) from.now) × (Carried img.now (states img.now) on.now) }
-    requires walked { Walked img.now s depth back.old into.old }
-    ensures { (Walked img.now s result back.new into.new) × ((want ≤ result) × (result ≤ most_symbols)) }
+    requires walked { Walked img.now s walk.old.depth walk.old.back walk.old.into }
+    ensures { (Walked img.now s walk.new.depth walk.new.back walk.new.into) × ((want ≤ walk.new.depth) × (walk.new.depth ≤ most_symbols)) }
 {
-    let mut d = depth;
-    while d < want {
-        joins::collect(on, back, into, d);
-        joins::step(from, back, d);
-        d += 1;
+    for depth in walk.depth..want {
+        joins::collect(on, &walk.back, &mut walk.into, depth);
+        joins::step(from, &mut walk.back, depth);
+        walk.depth = depth + 1;
     }
-    d
 }
 
 // Whether every state reached by i steps back from s may take one more by production p: state 0 is not among them, and nothing but
 // p's symbol is on their edges in.
-fn step_right(
-    img: &[u16],
-    s: usize,
-    p: usize,
-    i: usize,
-    back: &[u64; 256],
-    into: &[u64; 256],
-) -> bool
+#[tactic(auto, using(crate::proofs::Laws::len_most))]
+fn step_right(img: &[u16], s: usize, p: usize, i: usize, walk: &Walk) -> bool
     requires laid { Laid img.now }
     requires good_shape { shape img.now ≡ Good }
     requires p_bound { (p < productions img.now) × (i < len img.now p) }
-    requires walked { Walked img.now s (len img.now p) back.now into.now }
+    requires walked { Walked img.now s (len img.now p) walk.now.back walk.now.into }
     ensures { result ≡ steps img.now s p i }
 {
-    if rows::bit(back, i, 0) {
+    if walk.back[i].contains(0) {
         return false;
     }
-    rows::only(into, i, image::symbol(img, p, image::len(img, p) - 1 - i))
+    walk.into[i].has_only(image::symbol(img, p, image::len(img, p) - 1 - i))
 }
 
-// Whether every step back is right, the last one asked first.
-pub fn all_steps(img: &[u16], s: usize, p: usize, back: &[u64; 256], into: &[u64; 256]) -> bool
+// Whether every step back is right.
+#[tactic(auto, using(conditions::proofs::TestLaws::all_true))]
+pub fn all_steps(img: &[u16], s: usize, p: usize, walk: &Walk) -> bool
     requires laid { Laid img.now }
     requires good_shape { shape img.now ≡ Good }
     requires p_bound { p < productions img.now }
-    requires walked { Walked img.now s (len img.now p) back.now into.now }
+    requires walked { Walked img.now s (len img.now p) walk.now.back walk.now.into }
     ensures { result ≡ all_below (len img.now p) (steps img.now s p) }
 {
-    let mut i = image::len(img, p);
-    while 0 < i {
-        if step_right(img, s, p, i - 1, back, into) {
-            i -= 1;
-        } else {
+    for i in 0..image::len(img, p) {
+        if !step_right(img, s, p, i, walk) {
             return false;
         }
     }
@@ -82,20 +78,14 @@ pub fn all_steps(img: &[u16], s: usize, p: usize, back: &[u64; 256], into: &[u64
 }
 
 // Whether every state reached at the end has a goto on the left side of production p.
-pub fn end_right(
-    img: &[u16],
-    s: usize,
-    p: usize,
-    goes: &[u64; 256],
-    back: &[u64; 256],
-    into: &[u64; 256],
-) -> bool
+#[tactic(auto, using(crate::proofs::Laws::len_most, crate::proofs::Laws::lhs_most))]
+pub fn end_right(img: &[u16], s: usize, p: usize, goes: &[NumberSet; 128], walk: &Walk) -> bool
     requires laid { Laid img.now }
     requires good_shape { shape img.now ≡ Good }
     requires p_bound { p < productions img.now }
     requires goers { Goers img.now (states img.now) goes.now }
-    requires walked { Walked img.now s (len img.now p) back.now into.now }
+    requires walked { Walked img.now s (len img.now p) walk.now.back walk.now.into }
     ensures { result ≡ ends img.now s p }
 {
-    rows::contained(back, image::len(img, p), goes, image::lhs(img, p))
+    walk.back[image::len(img, p)].is_subset(goes[image::lhs(img, p)])
 }

@@ -1,28 +1,28 @@
-use mathlib.Core.Path.{sym, ◌∙◌}
+use Rattle.std.proofs.lemmas.Result.{err_from_is_err_and}
 use Rattle.conditions.specs.Check.{c1, c2, c3, number}
 use Rattle.checker.proofs.Laws.{fails_here, holds_here}
 use Rattle.checker.proofs.conditions.Goals as goal
 
-pub returns-then-fails : goal.returns-then-fails
+pub returns-in_err-holds : goal.returns-in_err-holds
 unfolding number
-returns-then-fails c = fails_here c1 _ c.find_k1-f1.ensures _ (sym c.fails.ensures ∙ c.if-fails.true) c.answer.ensures
+returns-in_err-holds c =
+    let p = err_from_is_err_and c.from_residual.result c.from_residual.ensures.1 in
+    rw (p.1, p.2) (fails_here c1 _ _ c.find_k1.ensures _ c.in_err-holds.ensures)
 
-pub returns-then-fails-2 : goal.returns-then-fails-2
+pub returns-in_err-holds-2 : goal.returns-in_err-holds-2
 unfolding number
-returns-then-fails-2 c =
-    holds_here c1 _ c.find_k1-f1.ensures _ (sym c.fails.ensures ∙ c.if-fails.false)
-    (fails_here c2 _ c.find_k2-f2.ensures _ (sym c.fails-2.ensures ∙ c.if-fails-2.true) c.answer-then-fails-2.ensures)
+returns-in_err-holds-2 c =
+    let p = err_from_is_err_and c.from_residual-in_err-holds-2.result c.from_residual-in_err-holds-2.ensures.1 in
+    rw (p.1, p.2) (holds_here c1 _ _ c.find_k1.ensures _ c.in_ok-holds.ensures (fails_here c2 _ _ c.find_k2.ensures _ c.in_err-holds-2.ensures))
 
-pub returns-then-fails-3 : goal.returns-then-fails-3
+pub returns-in_err-holds-3 : goal.returns-in_err-holds-3
 unfolding number
-returns-then-fails-3 c =
-    holds_here c1 _ c.find_k1-f1.ensures _ (sym c.fails.ensures ∙ c.if-fails.false)
-    (holds_here c2 _ c.find_k2-f2.ensures _ (sym c.fails-2.ensures ∙ c.if-fails-2.false)
-    (fails_here c3 _ c.find_k3-f3.ensures _ (sym c.fails-3.ensures ∙ c.if-fails-3.true) c.answer-then-fails-3.ensures))
+returns-in_err-holds-3 c =
+    let p = err_from_is_err_and c.from_residual-in_err-holds-3.result c.from_residual-in_err-holds-3.ensures.1 in
+    rw (p.1, p.2) (holds_here c1 _ _ c.find_k1.ensures _ c.in_ok-holds.ensures
+    (holds_here c2 _ _ c.find_k2.ensures _ c.in_ok-holds-2.ensures (fails_here c3 _ _ c.find_k3.ensures _ c.in_err-holds-3.ensures)))
 
 pub returns : goal.returns
-unfolding number
 returns c =
-    holds_here c1 _ c.find_k1-f1.ensures _ (sym c.fails.ensures ∙ c.if-fails.false)
-    (holds_here c2 _ c.find_k2-f2.ensures _ (sym c.fails-2.ensures ∙ c.if-fails-2.false)
-    (holds_here c3 _ c.find_k3-f3.ensures _ (sym c.fails-3.ensures ∙ c.if-fails-3.false) c.parser_conditions.ensures))
+    holds_here c1 _ _ c.find_k1.ensures _ c.in_ok-holds.ensures
+    (holds_here c2 _ _ c.find_k2.ensures _ c.in_ok-holds-2.ensures (holds_here c3 _ _ c.find_k3.ensures _ c.in_ok-holds-3.ensures c.parser_conditions.ensures))

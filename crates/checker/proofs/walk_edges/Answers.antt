@@ -1,20 +1,22 @@
-use mathlib.Core.Path.{sym, ◌∙◌}
+use Rattle.std.proofs.lemmas.Result.{err_from_is_err_and}
 use Rattle.conditions.specs.Check.{c4, c5, c6, number}
 use Rattle.checker.proofs.Laws.{fails_here, holds_here, last_here}
 use Rattle.checker.proofs.walk_edges.Goals as goal
 
-pub returns-then-fails : goal.returns-then-fails
+pub returns-in_err-holds : goal.returns-in_err-holds
 unfolding number
-returns-then-fails c = fails_here c4 _ c.find_k4-f4.ensures _ (sym c.fails.ensures ∙ c.if-fails.true) c.answer.ensures
+returns-in_err-holds c =
+    let p = err_from_is_err_and c.from_residual.result c.from_residual.ensures.1 in
+    rw (p.1, p.2) (fails_here c4 _ _ c.find_k4.ensures _ c.in_err-holds.ensures)
 
-pub returns-then-fails-2 : goal.returns-then-fails-2
+pub returns-in_err-holds-2 : goal.returns-in_err-holds-2
 unfolding number
-returns-then-fails-2 c =
-    holds_here c4 _ c.find_k4-f4.ensures _ (sym c.fails.ensures ∙ c.if-fails.false)
-    (fails_here c5 _ c.find_k5-f5.ensures _ (sym c.fails-2.ensures ∙ c.if-fails-2.true) c.answer-then-fails-2.ensures)
+returns-in_err-holds-2 c =
+    let p = err_from_is_err_and c.from_residual-in_err-holds-2.result c.from_residual-in_err-holds-2.ensures.1 in
+    rw (p.1, p.2) (holds_here c4 _ _ c.find_k4.ensures _ c.in_ok-holds.ensures (fails_here c5 _ _ c.find_k5.ensures _ c.in_err-holds-2.ensures))
 
 pub returns : goal.returns
 unfolding number
 returns c =
-    holds_here c4 _ c.find_k4-f4.ensures _ (sym c.fails.ensures ∙ c.if-fails.false)
-    (holds_here c5 _ c.find_k5-f5.ensures _ (sym c.fails-2.ensures ∙ c.if-fails-2.false) (last_here c6 _ c.find_k6.ensures c.answer-2.ensures))
+    holds_here c4 _ _ c.find_k4.ensures _ c.in_ok-holds.ensures
+    (holds_here c5 _ _ c.find_k5.ensures _ c.in_ok-holds-2.ensures (last_here c6 _ _ c.find_k6.ensures _ c.holds-3.ensures))

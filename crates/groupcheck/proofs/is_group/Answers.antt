@@ -1,6 +1,4 @@
-use mathlib.Core.Path.{sym, ◌∙◌}
-use native.Mathlib.Omega.{arith}
-use borrow.Author.Tests.{eq-eqb}
+use Rattle.std.proofs.Common.{sym, ◌∙◌, arith, eq-eqb}
 use Rattle.conditions.proofs.TestLaws.{some_true, some_false}
 use Rattle.conditions.specs.Conditions.{is_group}
 use Rattle.groupcheck.proofs.is_group.Goals as goal
@@ -12,4 +10,4 @@ returns-then-group_set-set c =
 
 pub returns : goal.returns
 unfolding is_group
-returns c = sym (some_false _ _ (λ i l. c.loop-g.invariant.2 i (omega arith)))
+returns c = sym (some_false _ _ (λ i l. c.loop-g.invariant i (omega arith)))

@@ -1,11 +1,5 @@
-use mathlib.Core.Path.{◌≡◌}
-use Prim.Native.Nat.{◌-◌, ◌≤◌}
-use Rattle.pack.specs.Image.{scan_states}
-use Rattle.conditions.specs.Check.{c2, test, in_rows, find}
+use Rattle.conditions.specs.Conditions.{k2}
 use Rattle.posscheck.proofs.find_k2.Given as goal
 
-abbrev pub invariant-loop-q : goal.invariant-loop-q
-invariant-loop-q l = (l.q ≤ l.n) × (l.n ≡ scan_states l.img) × (find c2 l.img ≡ in_rows (test c2 l.img) 1 (l.n - l.q) l.q)
-
-abbrev pub decreases-loop-q : goal.decreases-loop-q
-decreases-loop-q l = l.n - l.q
+abbrev pub ghost-first_wrong : goal.ghost-first_wrong
+ghost-first_wrong a = k2 a.test.0.now

@@ -1,11 +1,14 @@
+use Rattle.std.proofs.Common.{ℕ, ◌≡◌, ap, ◌∙◌, arith}
+use Rattle.pack.specs.Image.{poss}
 use Rattle.conditions.specs.Conditions.{within}
 use Rattle.posscheck.proofs.Laws.{within_state}
 use Rattle.posscheck.proofs.within.Goals as goal
 
-pub returns-then-code-eq0 : goal.returns-then-code-eq0
-unfolding within
-returns-then-code-eq0 c = rw c.if-code-eq0.true
+pub returns-in-Some : goal.returns-in-Some
+returns-in-Some c =
+    let next = c.in-Some.ensures in
+    within_state _ _ _ (λ z. omega arith) (c.poss.ensures ∙ ap (λ (p : ℕ). poss c.args.img.now p) next.1) c.poss-in-Some.ensures c.subset.ensures
 
-pub returns : goal.returns
+pub returns-in-None : goal.returns-in-None
 unfolding within
-returns c = within_state _ _ _ c.if-code-eq0.false c.poss.ensures c.poss-2.ensures c.subset.ensures
+returns-in-None c = let z : c.args.code ≡ 0 = omega (arith, c.in-None.ensures) in rw z

@@ -1,12 +1,13 @@
-use native.Mathlib.Omega.{arith}
-use Rattle.shape.proofs.GoodParser.{good_len, good_lhs}
+use Rattle.std.proofs.Common.{◌<◌, length, arith}
+use Rattle.std.proofs.lemmas.Grind.{get_or_default_zero}
 use Rattle.walkback.proofs.Laws as laws
 use Rattle.walkback.proofs.end_right.Goals as goal
 
-pub contained-requires : goal.contained-requires
-contained-requires c =
-    (omega (arith, c.len.ensures, good_len _ c.requires.good_shape _ c.requires.p_bound), omega (arith, c.lhs.ensures, good_lhs _ c.requires.good_shape _ c.requires.p_bound, c.requires.laid.sized.n_most))
-
 pub returns : goal.returns
 returns c =
-    laws.end_is _ c.requires.laid _ _ c.requires.walked c.requires.goers (good_lhs _ c.requires.good_shape _ c.requires.p_bound) c.len.ensures c.lhs.ensures c.contained.ensures
+    let q = c.requires in
+    let left = laws.lhs_most _ q.good_shape _ q.p_bound in
+    let l : c.len.result < length c.args.walk.now.back = omega (arith, laws.len_most _ q.good_shape _ q.p_bound) in
+    let m : c.lhs.result < length c.args.goes.now = omega (arith, left) in
+    laws.end_is _ q.laid _ _ q.walked q.goers left c.len.ensures c.lhs.ensures
+    (rw (get_or_default_zero c.args.walk.now.back c.len.result c.index-walk-len.result l, get_or_default_zero c.args.goes.now c.lhs.result c.index-goes-lhs.result m) at c.is_subset.ensures)

@@ -1,7 +1,11 @@
-use native.Mathlib.Omega.{arith}
-use Rattle.walkback.proofs.Laws as laws
+use Rattle.std.proofs.Common.{refl, arith}
+use Rattle.walkback.proofs.Laws.{walked_more}
 use Rattle.walkback.proofs.extend.Goals as goal
 
-pub loop-d-preserved : goal.loop-d-preserved
-loop-d-preserved c =
-    (omega (arith, c.requires.s_bound.1.1), laws.walked_more _ c.requires.laid _ c.requires.s_bound.0 c.requires.edge_tables.0 c.requires.edge_tables.1 c.loop-d.invariant.1 c.collect.ensures c.step.ensures)
+pub loop-depth-preserved : goal.loop-depth-preserved
+loop-depth-preserved c =
+    let q = c.requires in record {
+      depth_is = refl;
+      most = omega (arith, q.s_bound.1.1);
+      walked = walked_more _ q.laid _ q.s_bound.0 q.edge_tables.0 q.edge_tables.1 c.loop-depth.invariant.walked c.collect.ensures c.step.ensures;
+    }

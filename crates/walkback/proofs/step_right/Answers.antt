@@ -1,24 +1,19 @@
-use native.Mathlib.Omega.{arith}
-use Rattle.shape.proofs.GoodParser.{good_len}
+use Rattle.std.proofs.Common.{◌<◌, length, arith}
+use Rattle.std.proofs.lemmas.Grind.{get_or_default_zero}
 use Rattle.walkback.proofs.Laws as laws
 use Rattle.walkback.proofs.step_right.Goals as goal
 
-pub bit-requires : goal.bit-requires
-bit-requires c =
-    (omega (arith, c.requires.p_bound.1, good_len _ c.requires.good_shape _ c.requires.p_bound.0), omega arith)
-
-pub returns-then-bit : goal.returns-then-bit
-returns-then-bit c =
-    laws.step_zero _ c.requires.laid _ _ c.requires.walked _ c.requires.p_bound.1 c.bit.ensures c.if-bit.true
-
-pub symbol-requires : goal.symbol-requires
-symbol-requires c =
-    record { laid = c.requires.laid; p_bound = (c.requires.p_bound.0, omega (arith, c.len.ensures, good_len _ c.requires.good_shape _ c.requires.p_bound.0)) }
-
-pub only-requires : goal.only-requires
-only-requires c =
-    omega (arith, c.requires.p_bound.1, good_len _ c.requires.good_shape _ c.requires.p_bound.0)
+pub returns-then-contains : goal.returns-then-contains
+returns-then-contains c =
+    let q = c.requires in
+    let l : c.args.i < length c.args.walk.now.back = omega (arith, laws.len_most _ q.good_shape _ q.p_bound.0) in
+    laws.step_zero _ q.laid _ _ q.walked _ q.p_bound.1 (rw (get_or_default_zero c.args.walk.now.back c.args.i c.index-walk-i.result l) at c.contains.ensures) c.if-contains.true
 
 pub returns : goal.returns
 returns c =
-    laws.step_only _ c.requires.laid _ _ c.requires.walked _ c.requires.p_bound.1 c.bit.ensures c.if-bit.false c.only.ensures c.symbol.ensures c.len.ensures
+    let q = c.requires in
+    let l : c.args.i < length c.args.walk.now.back = omega (arith, laws.len_most _ q.good_shape _ q.p_bound.0) in
+    let m : c.args.i < length c.args.walk.now.into = omega (arith, laws.len_most _ q.good_shape _ q.p_bound.0) in
+    laws.step_only _ q.laid _ _ q.walked _ q.p_bound.1
+    (rw (get_or_default_zero c.args.walk.now.back c.args.i c.index-walk-i.result l) at c.contains.ensures) c.if-contains.false
+    (rw (get_or_default_zero c.args.walk.now.into c.args.i c.index-walk-i-2.result m) at c.has_only.ensures) c.symbol.ensures c.len.ensures

@@ -1,10 +1,9 @@
-use borrow.Author.Rules.{rules}
-use Rattle.edges.proofs.RowLaws as laws
+use Rattle.std.proofs.Common.{arith}
+use Rattle.edges.proofs.RowLaws.{next_none64, next_there64}
 use Rattle.edges.proofs.rows.next_in.Goals as goal
 
-pub returns-then-rest-ne0 : goal.returns-then-rest-ne0
-returns-then-rest-ne0 c =
-    laws.next_there _ _ c.ranges.word.fits c.if-b-lt64.true c.if-rest-ne0.true c.lowest.ensures
+pub returns-then-rest-eq0 : goal.returns-then-rest-eq0
+returns-then-rest-eq0 c = next_none64 _ _ c.requires c.if-rest-eq0.true
 
-pub returns-else-rest-ne0 : goal.returns-else-rest-ne0
-returns-else-rest-ne0 c = laws.next_none _ _ (search rules) c.if-rest-ne0.false
+pub returns : goal.returns
+returns c = next_there64 _ _ c.ranges.terminals.fits (omega arith)

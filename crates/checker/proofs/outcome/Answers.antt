@@ -1,7 +1,7 @@
-use mathlib.Core.Path.{sym}
+use Rattle.std.proofs.Common.{sym}
 use Rattle.shape.proofs.Good.{good_laid}
 use Rattle.checker.proofs.Laws.{check_wrong, check_good}
-use Rattle.checker.proofs.check.Goals as goal
+use Rattle.checker.proofs.outcome.Goals as goal
 
 pub returns-in-Err : goal.returns-in-Err
 returns-in-Err c = check_wrong _ _ c.in-Err.ensures

@@ -1,7 +1,0 @@
-use native.Mathlib.Omega.{arith}
-use Rattle.edges.proofs.RowLaws as laws
-use Rattle.joins.proofs.step.Goals as goal
-
-pub returns : goal.returns
-returns c =
-    rw c.write.ensures (laws.made_is _ _ c.requires.of_len (omega (arith, c.requires.i_bound)) c.join-w.ensures.low_half c.join-w.ensures.high_half)
