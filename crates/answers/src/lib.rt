@@ -12,65 +12,17 @@ use numbers::{Answer, WrongWord};
 use records::Parsed;
 use scan::Scanned;
 
-// Two numbers, where there is room for them.
-fn put2(out: &mut [u64], a: u64, b: u64) -> usize
-    ensures value { result ≡ told out.old (a ∷ b ∷ []) }
-    ensures out_after { out.new ≡ written out.old (a ∷ b ∷ []) }
+// Numbers at the front of the row, where there is room for them.
+#[tactic(auto, using(numbers::proofs::Laws::deliver_none, numbers::proofs::Laws::deliver_all))]
+fn put<const N: usize>(out: &mut [u64], numbers: [u64; N]) -> usize
+    ensures value { result ≡ told out.old numbers.entry }
+    ensures out_after { out.new ≡ written out.old numbers.entry }
 {
-    if out.len() < 2 {
+    if out.len() < N {
         return 0;
     }
-    out[0] = a;
-    out[1] = b;
-    2
-}
-
-// Four numbers, where there is room for them.
-fn put4(out: &mut [u64], a: u64, b: u64, c: u64, d: u64) -> usize
-    ensures value { result ≡ told out.old (a ∷ b ∷ c ∷ d ∷ []) }
-    ensures out_after { out.new ≡ written out.old (a ∷ b ∷ c ∷ d ∷ []) }
-{
-    if out.len() < 4 {
-        return 0;
-    }
-    out[0] = a;
-    out[1] = b;
-    out[2] = c;
-    out[3] = d;
-    4
-}
-
-// Five numbers, where there is room for them.
-fn put5(out: &mut [u64], a: u64, b: u64, c: u64, d: u64, e: u64) -> usize
-    ensures value { result ≡ told out.old (a ∷ b ∷ c ∷ d ∷ e ∷ []) }
-    ensures out_after { out.new ≡ written out.old (a ∷ b ∷ c ∷ d ∷ e ∷ []) }
-{
-    if out.len() < 5 {
-        return 0;
-    }
-    out[0] = a;
-    out[1] = b;
-    out[2] = c;
-    out[3] = d;
-    out[4] = e;
-    5
-}
-
-// Six numbers, where there is room for them.
-fn put6(out: &mut [u64], a: u64, b: u64, c: u64, d: u64, e: u64, f: u64) -> usize
-    ensures value { result ≡ told out.old (a ∷ b ∷ c ∷ d ∷ e ∷ f ∷ []) }
-    ensures out_after { out.new ≡ written out.old (a ∷ b ∷ c ∷ d ∷ e ∷ f ∷ []) }
-{
-    if out.len() < 6 {
-        return 0;
-    }
-    out[0] = a;
-    out[1] = b;
-    out[2] = c;
-    out[3] = d;
-    out[4] = e;
-    out[5] = f;
-    6
+    out[..N].copy_from_slice(&numbers);
+    N
 }
 
 // Of the shape: code and place.
@@ -80,7 +32,7 @@ pub fn put_shape(out: &mut [u64], v: Result<(), WrongWord>) -> usize
 {
     let code = numbers::verdict_code(v) as u64;
     let place = numbers::verdict_place(v) as u64;
-    put2(out, code, place)
+    put(out, [code, place])
 }
 
 // Of the scan called by itself: code, place, set, length and moves.
@@ -88,13 +40,15 @@ pub fn put_scan(out: &mut [u64], s: Scanned) -> usize
     ensures value { result ≡ told out.old (of_scan s) }
     ensures out_after { out.new ≡ written out.old (of_scan s) }
 {
-    put5(
+    put(
         out,
-        s.code as u64,
-        s.place as u64,
-        s.set,
-        s.length as u64,
-        s.moves as u64,
+        [
+            s.code as u64,
+            s.place as u64,
+            s.set,
+            s.length as u64,
+            s.moves as u64,
+        ],
     )
 }
 
@@ -103,7 +57,7 @@ pub fn put_answer(out: &mut [u64], a: Answer) -> usize
     ensures value { result ≡ told out.old (of_answer a) }
     ensures out_after { out.new ≡ written out.old (of_answer a) }
 {
-    put2(out, a.code as u64, a.number as u64)
+    put(out, [a.code as u64, a.number as u64])
 }
 
 // Of the check: code, number and the two places.
@@ -111,12 +65,14 @@ pub fn put_check(out: &mut [u64], c: Checked) -> usize
     ensures value { result ≡ told out.old (of_check c) }
     ensures out_after { out.new ≡ written out.old (of_check c) }
 {
-    put4(
+    put(
         out,
-        c.code as u64,
-        c.number as u64,
-        c.first as u64,
-        c.second as u64,
+        [
+            c.code as u64,
+            c.number as u64,
+            c.first as u64,
+            c.second as u64,
+        ],
     )
 }
 
@@ -125,14 +81,16 @@ pub fn put_parse(out: &mut [u64], p: Parsed) -> usize
     ensures value { result ≡ told out.old (of_parse p) }
     ensures out_after { out.new ≡ written out.old (of_parse p) }
 {
-    put6(
+    put(
         out,
-        p.code as u64,
-        p.place as u64,
-        p.length as u64,
-        p.terminal as u64,
-        p.records as u64,
-        p.moves as u64,
+        [
+            p.code as u64,
+            p.place as u64,
+            p.length as u64,
+            p.terminal as u64,
+            p.records as u64,
+            p.moves as u64,
+        ],
     )
 }
 
@@ -154,5 +112,5 @@ pub fn put_part(out: &mut [u64], p: Part) -> usize
     ensures value { result ≡ told out.old (of_part p) }
     ensures out_after { out.new ≡ written out.old (of_part p) }
 {
-    put2(out, p.start as u64, p.length as u64)
+    put(out, [p.start as u64, p.length as u64])
 }
