@@ -2,17 +2,17 @@
 use mathlib.Core.Path.{◌≡◌, refl, sym, ◌∙◌}
 use mathlib.Core.Bool.{Bool, true, false, not, ◌&&◌}
 use mathlib.Core.List.{List}
-use Prim.Native.Nat.{ℕ, zero, suc, ◌<◌, ◌≤◌}
+use Prim.Native.Nat.{ℕ, zero, suc, ◌<◌}
 use native.Mathlib.Omega.{arith}
 use lib.Dec.{eqb, leb, ltb}
 use lib.ListN.{get_or}
-use borrow.Author.Tests.{ne_eqb, eq-eqb, le-leb, lt-leb, lt-ltb, eqb-true, ltb-true}
+use borrow.Author.Tests.{ne_eqb, eq-eqb, le-leb, lt-ltb, eqb-true, ltb-true}
 use Rattle.pack.specs.Image.{states, act}
 use Rattle.pack.specs.Laid.{Laid}
 use Rattle.conditions.specs.Tests.{all_below, implies}
 use Rattle.conditions.specs.Edges.{symbols, leads, enters, only_on}
 use Rattle.conditions.specs.Conditions.{k4, from_start, k6}
-use Rattle.conditions.proofs.TestLaws.{alike, false-true, and_left, and_right, and_both, implies_gives, implies_all, all_each, all_true, all_false}
+use Rattle.conditions.proofs.TestLaws.{alike, false-true, and_left, and_right, and_both, implies_gives, implies_all, all_each, all_true}
 use Rattle.conditions.proofs.EdgeLaws.{enters_by, edge_on}
 use Rattle.edges.specs.Rows.{bit_at, all_in, only_in, Next}
 use Rattle.edges.specs.Tables.{Sources, Carried}

@@ -6,7 +6,7 @@ use Prim.Native.Nat.{ℕ, zero, suc, ◌+◌, ◌-◌, ◌/◌, ◌%◌, ◌<◌
 use native.Mathlib.Numerals.{add-one}
 use native.Mathlib.Omega.{arith}
 use lib.Dec.{eqb, ltb}
-use lib.ListN.{length, get_or, set, length-set, replicate, get_or-replicate}
+use lib.ListN.{length, get_or, set, replicate, get_or-replicate}
 use lib.Seq.{get_or-set_same, get_or-set_other}
 use lib.Bits.{bit_and, bit_or}
 use lib.Arith.{lt_of_le-ne}
@@ -19,7 +19,7 @@ use Rattle.std.proofs.lemmas.Nat.Bits.{bit_at-pow_same, bit_at-pow_other, bit_at
 use Rattle.sets.specs.Sets.{has, member, subset}
 use Rattle.sets.proofs.Laws.{has-lt, has_none, has_above, has-or}
 use Rattle.conditions.specs.Tests.{all_below, some_below, implies}
-use Rattle.conditions.proofs.TestLaws.{alike, false-true, not_true, implies_gives, implies_all, all_each, all_true, some_one, some_true, member-has, has-member, subset_is}
+use Rattle.conditions.proofs.TestLaws.{alike, false-true, implies_gives, implies_all, all_each, all_true, some_one, some_true, member-has, has-member, subset_is}
 use Rattle.edges.specs.Rows.{bit_at, either, Put, PutOne, PutEach, Whole, all_in, only_in, Next, Made}
 
 -- Two sets in one, and the bit of a number.

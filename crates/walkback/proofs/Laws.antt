@@ -7,7 +7,7 @@ use native.Mathlib.Numerals.{add-one}
 use native.Mathlib.Omega.{arith}
 use lib.Dec.{eqb, leb, ltb}
 use lib.ListN.{get_or}
-use borrow.Author.Tests.{le-leb, lt-ltb, le-ltb, eqb-true, leb-true, leb-false, ltb-true, ltb-false}
+use borrow.Author.Tests.{le-leb, lt-ltb, le-ltb, eqb-true, leb-true, leb-false, ltb-true}
 use Rattle.numbers.specs.Verdicts.{Good}
 use Rattle.pack.specs.Image.{most_symbols, nonterminals, productions, states, lhs, len, symbol, goto}
 use Rattle.pack.specs.Laid.{Laid}

@@ -1,4 +1,4 @@
-use Rattle.std.proofs.Common.{◌≡◌, ◌<◌, ◌≤◌, refl, sym, ◌∙◌, arith}
+use Rattle.std.proofs.Common.{◌<◌, ◌≤◌, refl, sym, ◌∙◌, arith}
 use Rattle.pack.specs.Image.{states}
 use Rattle.conditions.specs.Check.{c5, finding_of, is_fails, firsts, seconds}
 use Rattle.conditions.proofs.WalkLaws.{find_start, rows_end, found_hit, found_on}

@@ -1,4 +1,4 @@
-use Rattle.std.proofs.Common.{◌≡◌, ◌<◌, ◌≤◌, refl, sym, ◌∙◌, arith}
+use Rattle.std.proofs.Common.{◌<◌, ◌≤◌, refl, sym, ◌∙◌, arith}
 use Rattle.pack.specs.Image.{states}
 use Rattle.conditions.specs.Check.{c6, finding_of, firsts, seconds, test}
 use Rattle.conditions.proofs.WalkLaws.{find_start, rows_end, one_hit, one_on}

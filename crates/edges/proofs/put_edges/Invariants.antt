@@ -1,4 +1,4 @@
-use Rattle.std.proofs.Common.{ℕ, ◌≡◌, List, length}
+use Rattle.std.proofs.Common.{ℕ, List}
 use Rattle.conditions.specs.Edges.{edge_to}
 use Rattle.edges.specs.Rows.{PutOne, PutEach}
 use Rattle.edges.proofs.put_edges.Given as goal

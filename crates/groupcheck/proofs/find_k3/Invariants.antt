@@ -1,4 +1,4 @@
-use Rattle.std.proofs.Common.{ℕ, ◌≡◌, ◌-◌, ◌<◌, ◌≤◌, None, true}
+use Rattle.std.proofs.Common.{ℕ, ◌≡◌, ◌-◌, ◌<◌, None}
 use Rattle.conditions.proofs.WalkLaws.{rest}
 use Rattle.conditions.specs.Conditions.{settled}
 use Rattle.conditions.specs.Check.{c3, test, in_row, in_rows, find}

@@ -1,4 +1,4 @@
-use Rattle.std.proofs.Common.{ℕ, sym, ap₂, bit_or, arith}
+use Rattle.std.proofs.Common.{ℕ, ap₂, bit_or, arith}
 use Rattle.shape.proofs.Good.{good_move}
 use Rattle.posscheck.proofs.Laws.{move_test, k2_out, k2_fails, k2_holds}
 use Rattle.posscheck.proofs.k2.Goals as goal
