@@ -46,15 +46,15 @@ impl Sink for Buffer {
 pub struct Counter;
 
 impl Sink for Counter {
-    ghost use Rattle.std.proofs.Common.{arith, length-append};
+    ghost use Rattle.std.proofs.Common.{arith, refl, ◌∙◌, length-append};
 
     ghost room = { λ out at. 2 ^ 63 - at };
 
-    ghost takes = { λ out at xs written end. end ≡ at + length xs };
+    ghost takes = { λ out at xs written end. (written ≡ out) × (end ≡ at + length xs) };
 
-    ghost takes_none = { λ out at. Prim.omega arith };
+    ghost takes_none = { λ out at. (refl, Prim.omega arith) };
 
-    ghost takes_more = { λ a i b j c k xs ys p q. Prim.omega (arith, length-append xs ys) };
+    ghost takes_more = { λ a i b j c k xs ys p q. (q.0 ∙ p.0, Prim.omega (arith, length-append xs ys, p.1, q.1)) };
 
     fn put(_out: &mut [u8], at: usize, _b: u8) -> usize {
         at + 1
