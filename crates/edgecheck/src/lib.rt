@@ -25,7 +25,6 @@ fn k4(img: &[u16], v: usize, on: &[NumberSet; 128]) -> bool
 }
 
 // The first parse state at which K4 fails.
-#[tactic(auto, unfolding(conditions::specs::Check::find, conditions::specs::Check::firsts, conditions::specs::Check::seconds, conditions::specs::Check::test))]
 pub fn find_k4(img: &[u16], on: &[NumberSet; 128]) -> Option<(usize, usize)>
     requires laid { Laid img.now }
     requires carried { Carried img.now (states img.now) on.now }

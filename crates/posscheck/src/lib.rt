@@ -43,7 +43,6 @@ fn k2(img: &[u16], q: usize) -> bool
 }
 
 // The first scan state at which K2 fails.
-#[tactic(auto, unfolding(conditions::specs::Check::find, conditions::specs::Check::firsts, conditions::specs::Check::seconds, conditions::specs::Check::test))]
 pub fn find_k2(img: &[u16]) -> Option<(usize, usize)>
     requires laid { Laid img.now }
     requires good_shape { shape img.now ≡ Good }

@@ -43,7 +43,6 @@ fn k1(img: &[u16], q: usize) -> bool
 }
 
 // The first scan state at which K1 fails.
-#[tactic(auto, unfolding(conditions::specs::Check::find, conditions::specs::Check::firsts, conditions::specs::Check::seconds, conditions::specs::Check::test))]
 pub fn find_k1(img: &[u16]) -> Option<(usize, usize)>
     requires { Laid img.now }
     ensures { finding_of result ≡ find c1 img.now }
