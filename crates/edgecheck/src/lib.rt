@@ -33,7 +33,7 @@ pub fn find_k4(img: &[u16], on: &[NumberSet; 128]) -> Option<(usize, usize)>
     conditions::first_wrong(image::states(img), |v| k4(img, v, on))
 }
 
-// K6 of parse state s.
+// K6 of parse state s: where it accepts, it is not 0, and all edges into it come from state 0 and have symbol 64 on them.
 fn k6(img: &[u16], s: usize, from: &[NumberSet; 128], on: &[NumberSet; 128]) -> bool
     requires laid { Laid img.now }
     requires s_bound { s < states img.now }

@@ -6,7 +6,7 @@ use Prim.Native.Nat.{ℕ, zero, suc, ◌+◌, ◌-◌, ◌/◌, ◌%◌, ◌<◌
 use native.Mathlib.Numerals.{add-one}
 use native.Mathlib.Omega.{arith}
 use lib.Dec.{eqb, ltb}
-use lib.ListN.{length, get_or, set, replicate, get_or-replicate}
+use lib.ListN.{length, get_or, set, replicate, get_or-replicate, length-set}
 use lib.Seq.{get_or-set_same, get_or-set_other}
 use lib.Bits.{bit_and, bit_or}
 use lib.Arith.{lt_of_le-ne}
@@ -108,7 +108,7 @@ all_same set n one w = all_alike 128 (λ t l. ap (λ (x : Bool). implies (member
 -- One number more in a row.
 pub put_none : (row : List ℕ) (b : ℕ) → Put row 0 b row
 unfolding either
-put_none row b = record { each = λ v c lv lc. rw (ne_eqb 0 (1 + v) (λ z. omega arith)) (go (bit_at row v c)) }
+put_none row b = record { size = refl; each = λ v c lv lc. rw (ne_eqb 0 (1 + v) (λ z. omega arith)) (go (bit_at row v c)) }
   where
     go : (x : Bool) → x ≡ either x false
     go true = refl
@@ -116,7 +116,7 @@ put_none row b = record { each = λ v c lv lc. rw (ne_eqb 0 (1 + v) (λ z. omega
 
 pub put_one : (row : List ℕ) (v b one : ℕ) → v < length row → Whole (λ y. eqb y b) one → Put row (1 + v) b (set row v (bit_or (get_or row v 0) one))
 unfolding either
-put_one row v b one long w = record { each = λ u c lu lc. go u c lc (eqb u v) refl }
+put_one row v b one long w = record { size = length-set row v (bit_or (get_or row v 0) one); each = λ u c lu lc. go u c lc (eqb u v) refl }
   where
     right : (x : Bool) → x ≡ either x false
     right true = refl
@@ -186,6 +186,7 @@ below_other y x f = go (ltb y x) refl
 module _ (to : ℕ → ℕ) {row mid after : List ℕ} {x : ℕ} where
   pub one_more : {s t : ℕ} → PutOne to s x row mid → t ≡ to x → Put mid t s after → PutOne to s (x + 1) row after
   one_more {s} {t} p e q = record {
+    size = q.size ∙ p.size;
     each = λ v u lv lu.
         q.each v u lv lu ∙ rw (p.each v u lv lu, e, some_more x (λ y. eqb (to y) (1 + v)))
         (either-and (bit_at row v u) (eqb u s) (some_below x (λ y. eqb (to y) (1 + v))) (eqb (to x) (1 + v)));
@@ -193,7 +194,7 @@ module _ (to : ℕ → ℕ) {row mid after : List ℕ} {x : ℕ} where
 
   pub each_more : {t : ℕ} → PutEach to x row mid → t ≡ to x → Put mid t x after → PutEach to (x + 1) row after
   unfolding either
-  each_more {t} p e q = record { each = λ v y lv ly. q.each v y lv ly ∙ rw (p.each v y lv ly, e) (go v y (bit_at row v y) (eqb y x) refl) }
+  each_more {t} p e q = record { size = q.size ∙ p.size; each = λ v y lv ly. q.each v y lv ly ∙ rw (p.each v y lv ly, e) (go v y (bit_at row v y) (eqb y x) refl) }
     where
       last : (a b : Bool) → either (either a (false && b)) (b && true) ≡ either a (true && b)
       last true b = refl
@@ -221,10 +222,10 @@ module _ (to : ℕ → ℕ) {x z : ℕ} (l : x ≤ z) (none : (t : ℕ) → x �
   nowhere v t a b = ne_eqb (to t) (1 + v) (λ e. omega (arith, none t a b))
 
   pub one_past : {s : ℕ} {row mid : List ℕ} → PutOne to s x row mid → PutOne to s z row mid
-  one_past {s} {row} p = record { each = λ v u lv lu. p.each v u lv lu ∙ ap (λ (b : Bool). either (bit_at row v u) (eqb u s && b)) (some_past x z (λ y. eqb (to y) (1 + v)) l (nowhere v)) }
+  one_past {s} {row} p = record { size = p.size; each = λ v u lv lu. p.each v u lv lu ∙ ap (λ (b : Bool). either (bit_at row v u) (eqb u s && b)) (some_past x z (λ y. eqb (to y) (1 + v)) l (nowhere v)) }
 
   pub each_past : {row mid : List ℕ} → PutEach to x row mid → PutEach to z row mid
-  each_past {row} p = record { each = λ v y lv ly. p.each v y lv ly ∙ ap (λ (b : Bool). either (bit_at row v y) b) (go v y (ltb y x) refl (ltb y z) refl) }
+  each_past {row} p = record { size = p.size; each = λ v y lv ly. p.each v y lv ly ∙ ap (λ (b : Bool). either (bit_at row v y) b) (go v y (ltb y x) refl (ltb y z) refl) }
     where
       go : (v y : ℕ) (a : Bool) → ltb y x ≡ a → (b : Bool) → ltb y z ≡ b → (ltb y x && eqb (to y) (1 + v)) ≡ (ltb y z && eqb (to y) (1 + v))
       go v y true e b f = rw (e, lt-ltb y z (omega (arith, ltb-true y x e)))
@@ -233,10 +234,10 @@ module _ (to : ℕ → ℕ) {x z : ℕ} (l : x ≤ z) (none : (t : ℕ) → x �
 
 pub one_none : (to : ℕ → ℕ) (s : ℕ) (row : List ℕ) → PutOne to s 0 row row
 unfolding some_below
-one_none to s row = record { each = λ v u lv lu. either_none (bit_at row v u) (eqb u s) }
+one_none to s row = record { size = refl; each = λ v u lv lu. either_none (bit_at row v u) (eqb u s) }
 
 pub each_none : (to : ℕ → ℕ) (row : List ℕ) → PutEach to 0 row row
-each_none to row = record { each = λ v x lv lx. rw (le-ltb x 0 (omega arith)) (either_none (bit_at row v x) false) }
+each_none to row = record { size = refl; each = λ v x lv lx. rw (le-ltb x 0 (omega arith)) (either_none (bit_at row v x) false) }
 
 -- The next number of a set: what is shifted away is below it.
 shifted : (word b t : ℕ) → b ≤ t → member word t ≡ member (word / 2 ^ b) (t - b)
@@ -297,6 +298,7 @@ next_past test n b e = record { from = omega arith; most = omega arith; there = 
 -- A set made anew.
 pub made_is : (row : List ℕ) (i : ℕ) {test : ℕ → Bool} {w : ℕ} → length row ≡ 128 → i < 128 → Whole test w → Made row i test (set row i w)
 made_is row i {test} {w} long l h = record {
+  size = length-set row i w ∙ long;
   kept = λ j y lj ly. ap (λ (x : ℕ). member x y) (get_or-set_other row i j w 0 (λ z. omega arith));
   new = λ y ly. ap (λ (x : ℕ). member x y) (get_or-set_same row i w 0 (omega arith)) ∙ h.each y ly;
 }

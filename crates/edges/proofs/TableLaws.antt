@@ -5,7 +5,7 @@ use mathlib.Core.List.{List}
 use Prim.Native.Nat.{ℕ, zero, suc, ◌+◌, ◌*◌, ◌-◌, ◌/◌, ◌%◌, ◌<◌, ◌≤◌}
 use native.Mathlib.Omega.{arith}
 use lib.Dec.{eqb, leb, ltb}
-use lib.ListN.{replicate}
+use lib.ListN.{replicate, length-replicate}
 use borrow.Author.Tests.{eq-eqb, ne_eqb, le-leb, lt-leb, lt-ltb, le-ltb, eqb-true, eqb-false, leb-true, ltb-true, ltb-false}
 use Rattle.numbers.specs.Verdicts.{Good}
 use Rattle.sets.specs.Sets.{member}
@@ -111,6 +111,7 @@ module _ (img : List ℕ) (good : shape img ≡ Good) where
   pub carried_more : {s : ℕ} {row after : List ℕ} → Carried img s row → PutEach (edge_to img s) (symbols img) row after → Carried img (s + 1) after
   unfolding is_edge
   carried_more {s} t p = record {
+    size = p.size ∙ t.size;
     each = λ v x lv lx. p.each v x lv lx ∙ rw (t.each v x lv lx, some_more s (λ w. is_edge img w x v)) (one v x (ltb x (symbols img)) refl);
   }
     where
@@ -135,11 +136,13 @@ module _ (img : List ℕ) {s : ℕ} {row after : List ℕ} where
   pub sources_more : Sources img s row → PutOne (edge_to img s) s (symbols img) row after → Sources img (s + 1) after
   unfolding leads is_edge
   sources_more t p = record {
+    size = p.size ∙ t.size;
     each = λ v u lv lu. p.each v u lv lu ∙ rw (t.each v u lv lu) (below_one_more u s (λ w. some_below (symbols img) (λ x. eqb (edge_to img w x) (1 + v))) (eqb u s) refl);
   }
 
   pub goers_more : nonterminals img ≤ 32 → Goers img s row → PutOne (λ (a : ℕ). present (goto img s a) a) s (nonterminals img) row after → Goers img (s + 1) after
   goers_more few t p = record {
+    size = p.size ∙ t.size;
     each = λ a u la lu. p.each a u (omega arith) lu ∙ rw (t.each a u la lu, one a la) (below_one_more u s (λ w. leb 1 (goto img w a)) (eqb u s) refl);
   }
     where
@@ -159,11 +162,11 @@ module _ (img : List ℕ) {s : ℕ} {row after : List ℕ} where
 -- Empty rows, before the first state.
 module _ (img : List ℕ) where
   pub no_sources : Sources img 0 (replicate 128 0)
-  no_sources = record { each = λ v u lv lu. empty_row v u lv lu ∙ rw (le-ltb u 0 (omega arith)) }
+  no_sources = record { size = length-replicate {A = ℕ} 128 0; each = λ v u lv lu. empty_row v u lv lu ∙ rw (le-ltb u 0 (omega arith)) }
 
   pub none_carried : Carried img 0 (replicate 128 0)
   unfolding some_below
-  none_carried = record { each = λ v x lv lx. empty_row v x lv lx }
+  none_carried = record { size = length-replicate {A = ℕ} 128 0; each = λ v x lv lx. empty_row v x lv lx }
 
   pub no_goers : nonterminals img ≤ 32 → Goers img 0 (replicate 128 0)
-  no_goers few = record { each = λ a u la lu. empty_row a u (omega arith) lu ∙ rw (le-ltb u 0 (omega arith)) }
+  no_goers few = record { size = length-replicate {A = ℕ} 128 0; each = λ a u la lu. empty_row a u (omega arith) lu ∙ rw (le-ltb u 0 (omega arith)) }

@@ -1,4 +1,5 @@
-// Sets of numbers below 128, and rows of 128 of them. A contract sees a set as the number whose bit n says whether n is in it.
+// Sets of numbers below 128, rows of 128 of them, and the next terminal of a set of 64 bits. A contract sees a set as the number whose bit n
+// says whether n is in it.
 ghost use Rattle.std.specs.Prelude.{◌≡◌, ◌+◌, ◌<◌, ◌≤◌, eqb, bit_or, MatchOption};
 ghost use Rattle.sets.specs.Sets.{member};
 ghost use Rattle.edges.specs.Rows.{cell_of, either, Put, Whole, all_in, only_in, Next};

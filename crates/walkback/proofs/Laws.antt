@@ -6,7 +6,7 @@ use Prim.Native.Nat.{ℕ, zero, suc, ◌+◌, ◌-◌, ◌<◌, ◌≤◌}
 use native.Mathlib.Numerals.{add-one}
 use native.Mathlib.Omega.{arith}
 use lib.Dec.{eqb, leb, ltb}
-use lib.ListN.{get_or}
+use lib.ListN.{length, get_or}
 use borrow.Author.Tests.{le-leb, lt-ltb, le-ltb, eqb-true, leb-true, leb-false, ltb-true}
 use Rattle.numbers.specs.Verdicts.{Good}
 use Rattle.pack.specs.Image.{most_symbols, nonterminals, productions, states, lhs, len, symbol, goto}
@@ -35,9 +35,11 @@ module _ (img : List ℕ) (laid : Laid img) (s : ℕ) (ls : s < states img) wher
   small : (u : ℕ) → u < states img → u < 128
   small u l = omega (arith, laid.sized.s_most)
 
-  pub walked_start : {row after into : List ℕ} → Made row 0 (λ u. eqb u s) after → Walked img s 0 after into
+  pub walked_start : {row after into : List ℕ} → length into ≡ 128 → Made row 0 (λ u. eqb u s) after → Walked img s 0 after into
   unfolding reached
-  walked_start {row} {after} {into} m = record {
+  walked_start {row} {after} {into} long m = record {
+    size = m.size;
+    into_size = long;
     each = λ i u li lu. go i u li lu (eqb u s) refl;
     symbols = λ i x l lx. absurd (omega arith);
   }
@@ -54,7 +56,7 @@ module _ (img : List ℕ) (laid : Laid img) (s : ℕ) (ls : s < states img) wher
       go (suc i) u li lu b e = absurd (omega arith)
 
   pub walked_less : {d i : ℕ} {back into : List ℕ} → i ≤ d → Walked img s d back into → Walked img s i back into
-  walked_less l w = record { each = λ j u lj lu. w.each j u (omega arith) lu; symbols = λ j x lj lx. w.symbols j x (omega arith) lx }
+  walked_less l w = record { size = w.size; into_size = w.into_size; each = λ j u lj lu. w.each j u (omega arith) lu; symbols = λ j x lj lx. w.symbols j x (omega arith) lx }
 
   module _ {from on : List ℕ} (sources : Sources img (states img) from) (carried : Carried img (states img) on) {d : ℕ} {back into : List ℕ} (w : Walked img s d back into) where
     here : (v : ℕ) → v < states img → bit_at back d v ≡ reached img s d v
@@ -92,6 +94,8 @@ module _ (img : List ℕ) (laid : Laid img) (s : ℕ) (ls : s < states img) wher
 
     pub walked_more : {back' into' : List ℕ} → Made into d (joined on (get_or back d 0)) into' → Made back (d + 1) (joined from (get_or back d 0)) back' → Walked img s (d + 1) back' into'
     walked_more {back'} {into'} m t = record {
+      size = t.size;
+      into_size = m.size;
       each = λ i u li lu. go i u li lu (leb i d) refl;
       symbols = λ i x li lx. on_go i x li lx (leb d i) refl;
     }

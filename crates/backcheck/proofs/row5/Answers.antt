@@ -9,7 +9,7 @@ use Rattle.backcheck.proofs.row5.Goals as goal
 pub loop-p-init : goal.loop-p-init
 loop-p-init c = record {
   most = omega arith;
-  walked = walked_start _ c.requires.laid _ c.requires.s_bound (made_is c.args.walk.now.back 0 (omega arith) (omega arith) c.of.ensures);
+  walked = walked_start _ c.requires.laid _ c.requires.s_bound (omega arith) (made_is c.args.walk.now.back 0 (omega arith) (omega arith) c.of.ensures);
   within = omega arith;
   same = in_row_start _ _ refl;
 }
