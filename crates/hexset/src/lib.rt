@@ -1,4 +1,4 @@
-// Reading a set at the front of the bytes that are left, and its words in the image.
+// Reading a set at the front of the bytes that are left, and its words in a row.
 #![tactic(auto)]
 
 ghost use Rattle.std.specs.Prelude.{◌≡◌, ◌++◌, ◌+◌, ◌*◌, ◌<◌, ◌≤◌, MatchOption, IfSome, Some, None, length, take};
@@ -66,7 +66,7 @@ pub fn read_set(bytes: &[u8]) -> Option<(u64, &[u8])>
     Some((value, &bytes[DIGITS..]))
 }
 
-// A set as four words of the image, lowest first.
+// A set as four words of a row, from a place on, lowest first.
 pub fn set_words(img: &mut [u16], words: usize, value: u64)
     requires { words + set_words ≤ length img.old }
     ensures { take (words + set_words) img.new ≡ take words img.old ++ words_of Kind.Set value }

@@ -18,7 +18,7 @@ use Rattle.shape.specs.Shape.{shape}
 use Rattle.pack.proofs.Valid.{valid_lt}
 use Rattle.shape.proofs.Good.{good_layout}
 use Rattle.conditions.proofs.TestLaws.{and_left}
-use Rattle.std.specs.Prelude.{Option, Some, None, Result, Ok, Err}
+use Rattle.std.specs.Prelude.{Option, Result, Ok, Err}
 use Rattle.scan.specs.declared.Matched.{Matched}
 use Rattle.scan.specs.declared.UsedUp.{UsedUp}
 use Rattle.scan.specs.declared.Found.{Found}

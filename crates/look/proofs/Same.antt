@@ -1,7 +1,6 @@
 -- What the look gives is one: its numbers of the manual tell which. Assumes nothing.
 use mathlib.Core.Path.{◌≡◌, refl, sym, ap, ◌∙◌}
 use mathlib.Core.Bool.{true, false}
-use Prim.Native.Nat.{ℕ}
 use lib.Dec.{eqb}
 use Rattle.std.specs.Prelude.{Result, Ok, Err}
 use Rattle.look.specs.declared.Spot.{Spot}

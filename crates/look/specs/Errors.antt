@@ -1,4 +1,4 @@
--- The manual's numbers for each way that a parse ends without a tree: the code, and the length and terminal that go with it.
+-- The manual's numbers for each way that a parse is refused: the code, and the length and terminal that go with it.
 use Rattle.std.specs.Prelude.{ℕ}
 use Rattle.numbers.specs.Codes.{no_terminal, unexpected, no_group, stuck, tree_full, stack_full, allowance_used_up}
 use Rattle.look.specs.declared.ParseError.{ParseError}

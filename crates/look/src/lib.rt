@@ -17,7 +17,7 @@ use pack::image;
 use scan::{Matched, UsedUp};
 use token::{least, terminal_of};
 
-// Why a parse ends without a tree: the codes 7 to 13 of the manual, with the numbers that go with them.
+// Why a parse is refused on its way: the codes 7 to 13 of the manual, with the numbers that go with them.
 #[derive(Clone, Copy, Debug, PartialEq, Eq)]
 pub enum ParseError {
     NoTerminal,

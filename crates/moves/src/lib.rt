@@ -28,6 +28,7 @@ fn rewrite_by(text: &[u8], img: &mut [u16], buffer: &mut [u8], to: Form) -> Answ
     writer::write_good(&img[..words], buffer, to)
 }
 
+// A pack text of either form, written anew in this one.
 fn rewrite(text: &[u8], buffer: &mut [u8], to: Form) -> Answer
     requires { length text.now ≤ longest_text }
     ensures { Delivers (judge (length text.now) (λ w. write_good to w (length buffer.old)) (read_all text.now)) buffer.old buffer.new result }

@@ -69,6 +69,7 @@ fn finish(ended: Result<(), ParseError>, parser: &Parser) -> Parsed
     }
 }
 
+// The run of a text by a pack of good shape: turn after turn.
 pub fn run(img: &[u16], text: &[u8], tree: &mut [u16], allowance: u32) -> Parsed
     requires good_shape { shape img.now ≡ Good }
     requires text_len_bound { length text.now ≤ 65535 }

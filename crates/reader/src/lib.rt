@@ -13,7 +13,7 @@ use pack::image::{HEAD_WORDS, LARGEST_IMAGE};
 use readlines::WrongLine;
 use text::Form;
 
-mod tables; // tables.rt: the first two lines, the tables and the whole text
+mod tables; // tables.rt: the first two lines, the tables, and what stands behind the head
 
 // The scratch image is cleared for each call, so there are three sizes of it, and the sizes in the head say which one is enough.
 const SMALL_IMAGE: usize = 512;

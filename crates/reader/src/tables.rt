@@ -1,4 +1,4 @@
-// Reading the first two lines, the tables and the whole text.
+// Reading the first two lines, the tables, and what stands behind the head.
 ghost use Rattle.std.specs.Prelude.{◌≡◌, [], ◌*◌, ◌<◌, ◌≤◌, MatchResult, length};
 ghost use Rattle.pack.specs.Image.{largest_image, needed};
 ghost use Rattle.pack.specs.Laid.{Sized};

@@ -42,6 +42,7 @@ pub fn put(tree: &mut [u16], n: usize, words: [u16; 4])
     tree[n..n + RECORD_WORDS].copy_from_slice(&words);
 }
 
+// A number below 65536 as a word.
 pub fn narrow(x: usize) -> u16
     requires { x < 65536 }
     ensures { result ≡ x }

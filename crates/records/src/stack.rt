@@ -32,6 +32,7 @@ impl Stack {
         }
     }
 
+    // How many states there are.
     pub fn height(&self) -> usize
         ensures value { result ≡ length self.now }
         ensures bounds { (1 ≤ result) × (result ≤ 512) }

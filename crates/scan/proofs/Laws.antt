@@ -1,5 +1,5 @@
 -- One law for each way out of the loop of a scan, in the order of the code, and one for its end. Assumes nothing.
-use mathlib.Core.Path.{◌≡◌, refl, sym, ap, ◌∙◌}
+use mathlib.Core.Path.{◌≡◌, refl, sym, ◌∙◌}
 use mathlib.Core.List.{List, []}
 use mathlib.Core.Bool.{Bool, true, false}
 use Prim.Native.Nat.{ℕ, zero, suc, ◌+◌, ◌-◌, ◌<◌, ◌≤◌, min}
@@ -17,7 +17,7 @@ use Rattle.shape.specs.Shape.{shape}
 use Rattle.shape.proofs.Good.{good_move}
 use Rattle.classes.specs.Ready.{Ready}
 use Rattle.scan.specs.declared.Remembered.{Remembered}
-use Rattle.scan.specs.Scan.{Stop, nothing, remember, stopped, used_up, move_on, onward, scan_from, scan, refused, answer, scan_alone}
+use Rattle.scan.specs.Scan.{Stop, remember, stopped, used_up, move_on, onward, scan_from, scan, refused, answer, scan_alone}
 
 -- A move leads to a scan state.
 pub move_in : (img : List ℕ) (q c : ℕ) → Ready img → q < scan_states img → c < classes img → move img q c ≤ scan_states img

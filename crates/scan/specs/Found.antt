@@ -1,5 +1,5 @@
 -- The definitions' numbers for what the code of a scan gives: a match, a stop and a number that may be absent.
-use Rattle.std.specs.Prelude.{ℕ, zero, suc, Option, Some, None, Ok, Err}
+use Rattle.std.specs.Prelude.{ℕ, suc, Option, Some, None, Ok, Err}
 use Rattle.scan.specs.declared.Matched.{Matched}
 use Rattle.scan.specs.declared.Found.{Found}
 use Rattle.scan.specs.declared.Remembered.{Remembered}

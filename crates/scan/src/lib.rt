@@ -33,7 +33,7 @@ struct Remembered {
 #[derive(Clone, Copy, Debug, PartialEq, Eq)]
 pub struct UsedUp;
 
-// Where a scan stops: what it remembers, if anything, and the moves that it took.
+// Where a scan stops: its match, if any, unless a move beyond the allowance was asked for, and the moves that it took.
 #[derive(Clone, Copy, Debug, PartialEq, Eq)]
 pub struct Found {
     pub matched: Result<Option<Matched>, UsedUp>,
