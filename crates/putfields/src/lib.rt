@@ -8,7 +8,6 @@ ghost use Rattle.std.specs.Prelude.{◌≡◌, [], ◌+◌, ◌*◌, ◌<◌, �
 ghost use Rattle.text.specs.Decimal.{decimal};
 ghost use Rattle.text.specs.Fields.{hex_of, hex_word, field_text, width_of};
 ghost use Rattle.text.specs.Writer.{fields_text};
-ghost use Rattle.putfields.specs.Steps.{lead};
 
 pub use sinks::{Buffer, Counter, Sink};
 use text::Kind;
@@ -39,42 +38,13 @@ pub fn write_name<S: Sink>(out: &mut [u8], at: usize, name: &[u8]) -> usize
     to
 }
 
-// The byte of a decimal digit.
-fn digit_byte(d: usize) -> u8
-    requires { d < 10 }
-    ensures { result ≡ 48 + d }
-{
-    (48 + d) as u8
-}
-
-// The last digit of what is left of a number; nothing where nothing is left.
-#[tactic(auto, using(crate::proofs::FieldLaws::lead_length))]
-fn write_lead<S: Sink>(out: &mut [u8], at: usize, q: usize) -> usize
-    requires { length (lead q) ≤ S.room out.old at }
-    ensures taken { S.takes out.old at (lead q) out.new result }
-    ensures room { S.room out.new result + length (lead q) ≡ S.room out.old at }
-{
-    if q == 0 {
-        return at;
-    }
-    S::put(out, at, digit_byte(q % 10))
-}
-
-// A number in decimal. Most numbers of a pack have one digit.
-#[tactic(auto, using(crate::proofs::FieldLaws::one_digit, crate::proofs::FieldLaws::decimal_length))]
+// A number in decimal.
 pub fn write_decimal<S: Sink>(out: &mut [u8], at: usize, n: usize) -> usize
     requires { (n < 65536) × (length (decimal n) ≤ S.room out.old at) }
     ensures taken { S.takes out.old at (decimal n) out.new result }
     ensures room { S.room out.new result + length (decimal n) ≡ S.room out.old at }
 {
-    if n < 10 {
-        return S::put(out, at, digit_byte(n));
-    }
-    let a = write_lead::<S>(out, at, n / 10 / 10 / 10 / 10);
-    let b = write_lead::<S>(out, a, n / 10 / 10 / 10);
-    let c = write_lead::<S>(out, b, n / 10 / 10);
-    let d = write_lead::<S>(out, c, n / 10);
-    S::put(out, d, digit_byte(n % 10))
+    S::put_decimal(out, at, n)
 }
 
 // The byte of a hex digit.
