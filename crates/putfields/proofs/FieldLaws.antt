@@ -128,6 +128,13 @@ module _ (kind : Kind) (left end : ℕ) (img : List ℕ) (from : ℕ) where
   unfolding fields_text
   fields_none z = let e : left ≡ 0 = omega arith in rw e
 
+-- A set has sixteen digits, and a byte behind them.
+pub sets_size : (n end : ℕ) (img : List ℕ) (from : ℕ) → length (fields_text Set n end img from) ≡ n * 17
+unfolding fields_text
+sets_size zero end img from = refl
+sets_size (suc n) end img from =
+    length-append (field_text Set img from) _ ∙ rw (set_sixteen img from, sets_size n end img (from + 4), suc-mul n 17) (omega arith)
+
 pub one_more : (left w : ℕ) → 0 < left → left * w ≡ (left - 1) * w + w
 one_more zero w z = absurd (omega (arith, z))
 one_more (suc left) w z = rw (sub-one (suc left)) (suc-mul left w)

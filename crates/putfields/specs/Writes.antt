@@ -1,11 +1,11 @@
 -- Writes into lent bytes: none, and two one after the other, are one.
-use mathlib.Core.Path.{◌≡◌, refl, ◌∙◌}
+use mathlib.Core.Path.{◌≡◌, refl, ap, ◌∙◌}
 use mathlib.Core.List.{List, [], ◌∷◌, ◌++◌}
 use Prim.Native.Nat.{ℕ, suc, ◌+◌}
 use native.Mathlib.Nat.{add-zero}
 use native.Mathlib.Omega.{arith}
 use lib.ListN.{length, set, length-append}
-use lib.Seq.{sets}
+use lib.Seq.{sets, length-sets}
 use Rattle.putfields.specs.Steps.{Wrote}
 
 sets-append : (a b out : List ℕ) (at : ℕ) → sets out at (a ++ b) ≡ sets (sets out at a) (at + length a) b
@@ -20,3 +20,6 @@ wrote_two {out = out} {at = at} a b p q = record {
   end = omega (arith, p.end, q.end, length-append a b);
   holds = q.holds ∙ rw (p.holds, p.end, ← sets-append a b out at);
 }
+
+pub wrote_length : {bytes out out' : List ℕ} {at r : ℕ} → Wrote bytes out at out' r → length out' ≡ length out
+wrote_length {bytes = bytes} {out = out} {at = at} p = ap length p.holds ∙ length-sets out at bytes

@@ -13,9 +13,14 @@ use Rattle.text.specs.declared.Row.TheVariants.{Numbers, Group}
 use Rattle.text.specs.Form.{newline, comma, row_width, sizes, pack_line, tables_of, table_at}
 use Rattle.text.specs.Writer.{fields_text, row_text, lines_text, tables_text, text_of}
 use Rattle.text.proofs.Tables.{tables_from, tables_on, tables_end}
+use Rattle.putfields.proofs.FieldLaws.{sets_size}
 use Rattle.putlines.specs.Steps.{table_text}
 
 -- ---- rows
+pub group_size : (img : List ℕ) (i : ℕ) {n : ℕ} → length (fields_text Number 1 newline img (i + 4)) ≡ n
+    → length (fields_text Set 1 comma img i ++ fields_text Number 1 newline img (i + 4)) ≡ 17 + n
+group_size img i e = length-append (fields_text Set 1 comma img i) _ ∙ rw (sets_size 1 comma img i, e)
+
 module _ (row : Row) (img : List ℕ) (i : ℕ) where
   pub group_row : row ≡ Group → row_text row img i ≡ fields_text Set 1 comma img i ++ fields_text Number 1 newline img (i + 4)
   unfolding row_text

@@ -58,7 +58,7 @@ fn write_line<S: Sink>(
 }
 
 // So many lines of a table.
-fn write_lines<S: Sink>(
+pub fn write_lines<S: Sink>(
     out: &mut [u8],
     at: usize,
     img: &[u16],
@@ -107,7 +107,7 @@ fn write_table<S: Sink>(
 }
 
 // The words of table i.
-fn table_words(img: &[u16], i: usize, form: Form) -> usize
+pub fn table_words(img: &[u16], i: usize, form: Form) -> usize
     requires { (Sized img.now) × ((i < 9) × ((table_at form img.now i).lines * row_width (table_at form img.now i).row ≤ largest_image)) }
     ensures { result ≡ (table_at form img.now i).lines * row_width (table_at form img.now i).row }
 {
@@ -115,7 +115,7 @@ fn table_words(img: &[u16], i: usize, form: Form) -> usize
 }
 
 // The tables, in the order of their list.
-fn write_tables<S: Sink>(out: &mut [u8], at: usize, img: &[u16], form: Form) -> usize
+pub fn write_tables<S: Sink>(out: &mut [u8], at: usize, img: &[u16], form: Form) -> usize
     requires { (Sized img.now) × (length (tables_text (tables_of form img.now) img.now layout_at) ≤ S.room out.old at) }
     ensures taken { S.takes out.old at (tables_text (tables_of form img.now) img.now layout_at) out.new result }
     ensures room { S.room out.new result + length (tables_text (tables_of form img.now) img.now layout_at) ≡ S.room out.old at }
