@@ -2,7 +2,7 @@
 use mathlib.Core.Path.{◌≡◌, refl, sym, ap, ap₂, ◌∙◌}
 use mathlib.Core.Bool.{Bool, true, false, ◌&&◌}
 use mathlib.Core.List.{List}
-use Prim.Native.Nat.{ℕ, zero, suc, ◌+◌, ◌-◌, ◌/◌, ◌%◌, ◌<◌, ◌≤◌, ◌^◌, max}
+use Prim.Native.Nat.{ℕ, zero, suc, ◌+◌, ◌*◌, ◌-◌, ◌/◌, ◌%◌, ◌<◌, ◌≤◌, ◌^◌, max}
 use native.Mathlib.Numerals.{add-one}
 use native.Mathlib.Omega.{arith}
 use lib.Dec.{eqb, ltb}
@@ -10,14 +10,15 @@ use lib.ListN.{length, get_or, set, replicate, get_or-replicate, length-set}
 use lib.Seq.{get_or-set_same, get_or-set_other}
 use lib.Bits.{bit_and, bit_or}
 use lib.Arith.{lt_of_le-ne}
-use lib.Pow.{shr-shr, shr_le}
+use lib.Pow.{shr-shr, shr_le, pow-add, pow-lt, mod-mod-pow}
+use native.Mathlib.Nat.{mod-lt, mod-eq_of_lt}
 use borrow.Author.Tests.{eq-eqb, ne_eqb, lt-ltb, le-ltb, eqb-true, eqb-false, ltb-true, ltb-false}
 use mir.Val.{bits}
 use Rattle.std.specs.Int.{Width, w64, w128, trailing_zeros}
-use Rattle.std.proofs.lemmas.Nat.{or_lt}
+use Rattle.std.proofs.lemmas.Nat.{or_lt, mod-pow-add, div-mul-add, pow_pos}
 use Rattle.std.proofs.lemmas.Nat.Bits.{bit_at-pow_same, bit_at-pow_other, bit_at-trailing_zeros}
 use Rattle.sets.specs.Sets.{has, member, subset}
-use Rattle.sets.proofs.Laws.{has-lt, has_none, has_above, has-or}
+use Rattle.sets.proofs.Laws.{has-lt, has_none, has_above, has-or, one_shifted}
 use Rattle.conditions.specs.Tests.{all_below, some_below, implies}
 use Rattle.conditions.proofs.TestLaws.{alike, false-true, implies_gives, implies_all, all_each, all_true, some_one, some_true, member-has, has-member, subset_is}
 use Rattle.edges.specs.Rows.{bit_at, either, Put, PutOne, PutEach, Whole, all_in, only_in, Next, Made}
@@ -51,6 +52,16 @@ whole_one n one l f = rw f (record { each = λ t m. go t (eqb t n) refl })
     go : (t : ℕ) (x : Bool) → eqb t n ≡ x → eqb (2 ^ n / 2 ^ t % 2) 1 ≡ eqb t n
     go t true e = let z : t ≡ n = eqb-true t n e in rw e (eq-eqb (2 ^ n / 2 ^ t % 2) 1 (rw z (bit_at-pow_same n)))
     go t false e = rw e (ne_eqb (2 ^ n / 2 ^ t % 2) 1 (λ f. omega (arith, bit_at-pow_other n t (eqb-false t n e))))
+
+-- The same by halves: a number below 64, and one from 64 on.
+pub whole_low : (n one : ℕ) → n < 64 → one ≡ 1 * 2 ^ n % 18446744073709551616 → Whole (λ y. eqb y n) one
+whole_low n one l e = whole_one n one (omega (arith, l)) (e ∙ one_shifted n l)
+
+pub whole_high : (n one : ℕ) → n < 64 → one ≡ 1 * 2 ^ n % 18446744073709551616 → Whole (λ y. eqb y (64 + n)) (one * 18446744073709551616 % 340282366920938463463374607431768211456)
+whole_high n one l e =
+    let z : one * 18446744073709551616 ≡ 2 ^ (64 + n) = omega (arith, e, one_shifted n l, pow-add 2 64 n) in
+    let b : 2 ^ (64 + n) < 340282366920938463463374607431768211456 = pow-lt {i = 64 + n} {j = 128} (omega (arith, l)) in
+    whole_one (64 + n) (one * 18446744073709551616 % 340282366920938463463374607431768211456) (omega (arith, l)) (rw z (mod-eq_of_lt b))
 
 pub whole_far : (n : ℕ) → 128 ≤ n → Whole (λ y. eqb y n) 0
 unfolding member
@@ -239,6 +250,17 @@ one_none to s row = record { size = refl; each = λ v u lv lu. either_none (bit_
 pub each_none : (to : ℕ → ℕ) (row : List ℕ) → PutEach to 0 row row
 each_none to row = record { size = refl; each = λ v x lv lx. rw (le-ltb x 0 (omega arith)) (either_none (bit_at row v x) false) }
 
+-- The halves of a set.
+has_low : (set t j : ℕ) → has (set % 2 ^ (j + 1 + t)) t ≡ has set t
+unfolding has
+has_low set t j = rw (mod-pow-add set (j + 1) t, div-mul-add (set / 2 ^ t % 2 ^ (j + 1)) (2 ^ t) (set % 2 ^ t) (mod-lt set (pow_pos t))) (mod-mod-pow (set / 2 ^ t) j 1)
+
+pub low_half : (set t : ℕ) → t < 64 → member (set % 18446744073709551616) t ≡ member set t
+unfolding member
+low_half set t l =
+    let z : 63 - t + 1 + t ≡ 64 = omega arith in
+    ap (λ (n : ℕ). eqb n 1) (rw z at (has_low set t (63 - t)))
+
 -- The next number of a set: what is shifted away is below it.
 shifted : (word b t : ℕ) → b ≤ t → member word t ≡ member (word / 2 ^ b) (t - b)
 unfolding member has
@@ -283,6 +305,36 @@ next_none set b l e = nothing set b 128 l e
 pub next_there : (set b : ℕ) → set < 2 ^ 128 → 0 < set / 2 ^ b
     → (b + trailing_zeros w128 (set / 2 ^ b) < 128) × Next (member set) 128 b (b + trailing_zeros w128 (set / 2 ^ b))
 next_there set b l some = least w128 set b l some
+
+-- The next number of a set by its halves.
+pub high_half : (set t : ℕ) → member (set / 18446744073709551616) t ≡ member set (64 + t)
+high_half set t = let z : 64 + t - 64 ≡ t = omega arith in sym (rw z at (shifted set 64 (64 + t) (omega arith)))
+
+module _ (set half : ℕ) where
+  pub next_low : {b n : ℕ} → ((t : ℕ) → t < 64 → member half t ≡ member set t) → n < 64 → Next (member half) 64 b n → Next (member set) 128 b n
+  next_low {n = n} same l x = record {
+    from = x.from;
+    most = omega (arith, x.most);
+    there = λ m. sym (same n l) ∙ x.there l;
+    none = λ t f m. sym (same t (omega (arith, m, l))) ∙ x.none t f m;
+  }
+
+  pub next_on : {b n : ℕ} → ((t : ℕ) → t < 64 → member half t ≡ member set t) → Next (member half) 64 b 64 → Next (member set) 128 64 n → Next (member set) 128 b n
+  next_on {b} {n} same x y = record { from = omega (arith, x.from, y.from); most = y.most; there = y.there; none = λ t f m. go t f m (ltb t 64) refl }
+    where
+      go : (t : ℕ) → b ≤ t → t < n → (c : Bool) → ltb t 64 ≡ c → member set t ≡ false
+      go t f m true e = sym (same t (ltb-true t 64 e)) ∙ x.none t f (ltb-true t 64 e)
+      go t f m false e = y.none t (ltb-false t 64 e) m
+
+  pub next_from_64 : {b n : ℕ} → ((t : ℕ) → t < 64 → member half t ≡ member set (64 + t)) → Next (member half) 64 b n → Next (member set) 128 (64 + b) (64 + n)
+  next_from_64 {b} {n} same x = record {
+    from = omega (arith, x.from);
+    most = omega (arith, x.most);
+    there = λ m. sym (same n (omega (arith, m))) ∙ x.there (omega (arith, m));
+    none = λ t f m.
+        let z : 64 + (t - 64) ≡ t = omega (arith, f) in
+        rw z at (sym (same (t - 64) (omega (arith, m, x.most))) ∙ x.none (t - 64) (omega (arith, f)) (omega (arith, m)));
+  }
 
 pub next_none64 : (word b : ℕ) → b ≤ 64 → word / 2 ^ b ≡ 0 → Next (member word) 64 b 64
 next_none64 word b l e = nothing word b 64 l e

@@ -64,16 +64,18 @@ fn put_edges(img: &[u16], s: usize, from: &mut [NumberSet; 128], on: &mut [Numbe
     requires s_bound { s < states img.now }
     ensures { (PutOne (edge_to img.now s) s (symbols img.now) from.old from.new) × (PutEach (edge_to img.now s) (symbols img.now) on.old on.new) }
 {
+    let here = NumberSet::of(s);
     'shifts: for t in 0..image::terminals(img) {
         let to = shift_of(image::act(img, s, t));
-        rows::put(from, to, s);
-        rows::put(on, to, t);
+        rows::put_one(from, to, here);
+        rows::put_one(on, to, NumberSet::of_low(t));
     }
     let end = image::FIRST_NONTERMINAL + image::nonterminals(img);
     'gotos: for x in image::FIRST_NONTERMINAL..end {
-        let to = goto_of(image::goto(img, s, x - image::FIRST_NONTERMINAL));
-        rows::put(from, to, s);
-        rows::put(on, to, x);
+        let a = x - image::FIRST_NONTERMINAL;
+        let to = goto_of(image::goto(img, s, a));
+        rows::put_one(from, to, here);
+        rows::put_one(on, to, NumberSet::of_high(a));
     }
 }
 
@@ -96,8 +98,9 @@ fn put_gotos(img: &[u16], s: usize, goes: &mut [NumberSet; 128])
     requires s_bound { s < states img.now }
     ensures { PutOne (λ (a : ℕ). present (goto img.now s a) a) s (nonterminals img.now) goes.old goes.new }
 {
+    let here = NumberSet::of(s);
     for a in 0..image::nonterminals(img) {
-        rows::put(goes, present(image::goto(img, s, a), a), s);
+        rows::put_one(goes, present(image::goto(img, s, a), a), here);
     }
 }
 

@@ -1,6 +1,6 @@
 // Sets of numbers below 128, rows of 128 of them, and the next terminal of a set of 64 bits. A contract sees a set as the number whose bit n
 // says whether n is in it.
-ghost use Rattle.std.specs.Prelude.{◌≡◌, ◌+◌, ◌<◌, ◌≤◌, eqb, bit_or, MatchOption};
+ghost use Rattle.std.specs.Prelude.{◌≡◌, ℕ, ◌+◌, ◌<◌, ◌≤◌, eqb, bit_or, MatchOption};
 ghost use Rattle.sets.specs.Sets.{member};
 ghost use Rattle.edges.specs.Rows.{cell_of, either, Put, Whole, all_in, only_in, Next};
 
@@ -41,14 +41,52 @@ impl BitOr for NumberSet {
 impl NumberSet {
     pub const EMPTY: NumberSet = NumberSet { bits: 0 };
 
+    // The set of one number below 64. It is made in its half of the bits, and `next` looks in one half at a time: shifts of all 128 bits are
+    // slower.
+    pub fn of_low(n: usize) -> Self
+        requires { n < 64 }
+        ensures { Whole (λ y. eqb y n) result }
+    {
+        NumberSet {
+            bits: u128::from(1u64 << n),
+        }
+    }
+
+    // The set of 64 + n alone.
+    pub fn of_high(n: usize) -> Self
+        requires { n < 64 }
+        ensures { Whole (λ y. eqb y (64 + n)) result }
+    {
+        NumberSet {
+            bits: u128::from(1u64 << n) << 64,
+        }
+    }
+
     // The set of one number; a number of 128 or more is in none.
     pub fn of(n: usize) -> Self
         ensures { Whole (λ y. eqb y n) result }
     {
+        if n < 64 {
+            return NumberSet::of_low(n);
+        }
         if n < 128 {
-            return NumberSet { bits: 1 << n };
+            return NumberSet::of_high(n - 64);
         }
         NumberSet::EMPTY
+    }
+
+    // The numbers of the set below 64.
+    fn low(self) -> u64
+        ensures { (t : ℕ) → t < 64 → member result t ≡ member self t }
+    {
+        (self.bits % (1 << 64)) as u64
+    }
+
+    // The numbers of the set from 64 on, less 64.
+    fn high(self) -> u64
+        ensures { (t : ℕ) → t < 64 → member result t ≡ member self (64 + t) }
+    {
+        (self.bits >> 64) as u64
     }
 
     // Whether a number is in the set.
@@ -87,20 +125,29 @@ impl NumberSet {
         }
     }
 
+    // The least number of the set that is 64 + `from` or more.
+    fn next_high(self, from: usize) -> Option<usize>
+        requires { from ≤ 64 }
+        ensures { MatchOption result (Next (member self) 128 (64 + from) 128) (λ n. (n < 128) × Next (member self) 128 (64 + from) n) }
+    {
+        match next_in(self.high(), from) {
+            Some(n) => Some(64 + n),
+            None => None,
+        }
+    }
+
     // The least number of the set that is `from` or more.
-    #[tactic(auto, using(crate::proofs::RowLaws::next_there, crate::proofs::RowLaws::next_none, crate::proofs::RowLaws::next_past))]
     pub fn next(self, from: usize) -> Option<usize>
         requires { from ≤ 128 }
         ensures { MatchOption result (Next (member self) 128 from 128) (λ n. (n < 128) × Next (member self) 128 from n) }
     {
-        if from == 128 {
-            return None;
+        if 64 <= from {
+            return self.next_high(from - 64);
         }
-        let rest = self.bits >> from;
-        if rest == 0 {
-            return None;
+        match next_in(self.low(), from) {
+            Some(n) => Some(n),
+            None => self.next_high(0),
         }
-        Some(from + rest.trailing_zeros() as usize)
     }
 }
 
@@ -120,13 +167,21 @@ pub fn next_in(terminals: u64, from: usize) -> Option<usize>
     Some(from + rest.trailing_zeros() as usize)
 }
 
-// Puts b into a set of the row, where one is given.
+// Puts the one number of `one` into set `to` of the row, where one is given.
 #[tactic(auto, using(crate::proofs::RowLaws::put_none, crate::proofs::RowLaws::put_one), unfolding(crate::specs::Rows::cell_of))]
+pub fn put_one(row: &mut [NumberSet; 128], to: Option<usize>, one: NumberSet)
+    requires { cell_of to ≤ 128 }
+    ensures { (b : ℕ) → Whole (λ y. eqb y b) one → Put row.old (cell_of to) b row.new }
+{
+    if let Some(v) = to {
+        row[v] = row[v] | one;
+    }
+}
+
+// Puts b into a set of the row, where one is given.
 pub fn put(row: &mut [NumberSet; 128], to: Option<usize>, b: usize)
     requires { cell_of to ≤ 128 }
     ensures { Put row.old (cell_of to) b row.new }
 {
-    if let Some(v) = to {
-        row[v] = row[v] | NumberSet::of(b);
-    }
+    put_one(row, to, NumberSet::of(b));
 }
