@@ -32,6 +32,14 @@ impl Stack {
         }
     }
 
+    // The stack of so many states, which are the last part of a row.
+    pub fn of(row: [u16; 512], height: usize) -> Self
+        requires { (1 ≤ height) × (height ≤ 512) }
+        ensures { result ≡ drop (512 - height) row }
+    {
+        Stack { row, height }
+    }
+
     // How many states there are.
     pub fn height(&self) -> usize
         ensures value { result ≡ length self.now }
