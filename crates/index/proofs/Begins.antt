@@ -43,7 +43,7 @@ module _ (img : List ℕ) (good : shape img ≡ Good) (b : ℕ) where
   unfolding class_in
   none_begun g = rw (zero-add (ranges img)) at (sym (begins_above img b 0 0 (ranges img) (λ k l. g.above (0 + 0 + k) (omega arith) (omega arith))))
 
-  last_begun : (s : ℕ) → Begun img b (s + 1) → class_of img b ≡ class_in img b 1 s
+  pub last_begun : (s : ℕ) → Begun img b (s + 1) → class_of img b ≡ class_in img b 1 s
   last_begun s g =
       let z : ranges img ≡ s + (1 + (ranges img - (s + 1))) = omega (arith, g.within) in
       let l : lo img s ≤ b = g.below s (omega arith) in
@@ -111,39 +111,44 @@ eight_more j {field} e = rw (add-one j, pow-suc 8 j) (omega arith)
 
 -- The fields of an entry, one more each time.
 module _ (img : List ℕ) (good : shape img ≡ Good) (first base : ℕ) (g : Begun img first base) (j fields : ℕ) (lj : j < 8) (lf : fields < 8 ^ j) {all : ℕ}
-    (h : Begun img (first + j) all) (more : base ≤ all) {field : ℕ} (ef : field ≡ 8 ^ j) where
-  next_small : all - base < 8
+    (h : Begun img (first + j) all) (more : base ≤ all) where
+  pub next_small : all - base < 8
   next_small = omega (arith, few_more img good first base g j all h)
-
-  pub next_fits : fields + (all - base) * field < 8 * field
-  next_fits = rw ef (omega (arith, digits_lt {q = all - base} next_small lf))
-
-  pub next_below : fields + (all - base) * field < 8 ^ (j + 1)
-  next_below = omega (arith, next_fits, eight_more j ef)
 
   next_field : base + (fields + (all - base) * 8 ^ j) / 8 ^ j % 8 ≡ all
   next_field =
       let z : fields + (all - base) * 8 ^ j ≡ (all - base) * 8 ^ j + fields = omega arith in
       rw (z, digits_div (all - base) lf, mod-eq_of_lt next_small) (omega arith)
 
-  pub next_each : ((i : ℕ) → i < j → Begun img (first + i) (base + fields / 8 ^ i % 8))
-      → (i : ℕ) → i < j + 1 → Begun img (first + i) (base + (fields + (all - base) * field) / 8 ^ i % 8)
-  next_each e =
-      below_more (λ i. Begun img (first + i) (base + (fields + (all - base) * field) / 8 ^ i % 8)) j
-      (λ i l. rw (ef, field_below fields (all - base) i j l) (e i l)) (rw (ef, next_field) h)
+  module _ {field : ℕ} (ef : field ≡ 8 ^ j) where
+    pub next_fits : fields + (all - base) * field < 8 * field
+    next_fits = rw ef (omega (arith, digits_lt {q = all - base} next_small lf))
+
+    pub next_below : fields + (all - base) * field < 8 ^ (j + 1)
+    next_below = omega (arith, next_fits, eight_more j ef)
+
+    pub next_each : ((i : ℕ) → i < j → Begun img (first + i) (base + fields / 8 ^ i % 8))
+        → (i : ℕ) → i < j + 1 → Begun img (first + i) (base + (fields + (all - base) * field) / 8 ^ i % 8)
+    next_each e =
+        below_more (λ i. Begun img (first + i) (base + (fields + (all - base) * field) / 8 ^ i % 8)) j
+        (λ i l. rw (ef, field_below fields (all - base) i j l) (e i l)) (rw (ef, next_field) h)
 
 -- The whole entry.
-pub entry_tells : (img : List ℕ) → Laid img → (first base fields j : ℕ) → Begun img first base → 8 ≤ j → j ≤ 8 → fields < 8 ^ j
+pub entry_tells : (img : List ℕ) (first base fields : ℕ) → Begun img first base → fields < 16777216
+    → ((i : ℕ) → i < 8 → Begun img (first + i) (base + fields / 8 ^ i % 8)) → Tells img first (base * 16777216 + fields)
+entry_tells img first base fields g l e =
+    let top : (base * 16777216 + fields) / 16777216 ≡ base = digits_div base l in
+    let z : base * 16777216 + fields ≡ fields + base * 8 ^ 8 = omega arith in
+    record { here = rw top g; each = λ i h. rw (top, z, field_below fields base i 8 h) (e i h) }
+
+-- The same where the fields were gathered one after the other, and that it fits its word.
+pub entry_made : (img : List ℕ) → Laid img → (first base fields j : ℕ) → Begun img first base → 8 ≤ j → j ≤ 8 → fields < 8 ^ j
     → ((i : ℕ) → i < j → Begun img (first + i) (base + fields / 8 ^ i % 8))
     → Tells img first (base * 16777216 + fields) × (base * 16777216 + fields < 4294967296)
-entry_tells img laid first base fields j g from to small e =
+entry_made img laid first base fields j g from to small e =
     let eight : j ≡ 8 = omega arith in
     let l : fields < 16777216 = rw eight at small in
-    let top : (base * 16777216 + fields) / 16777216 ≡ base = digits_div base l in
-    let z : base * 16777216 + fields ≡ fields + base * 8 ^ 8 = omega arith in (
-      record { here = rw top g; each = λ i h. rw (top, z, field_below fields base i 8 h) (e i (omega arith)) },
-      omega (arith, g.within, laid.sized.r_most),
-    )
+    (entry_tells img first base fields g l (λ i h. e i (omega arith)), omega (arith, g.within, laid.sized.r_most))
 
 -- What an index tells of a byte.
 pub index_tells : (img index : List ℕ) (b : ℕ) {e : ℕ} → b < 256 → e ≡ get_or index (b / 8) 0 → Indexed img index

@@ -19,7 +19,7 @@ module _ (row : List ℕ) (of : ℕ) where
   unfolding joined_below some_below
   join_none = whole_none (λ y. refl)
 
-  join_past : {v u all : ℕ} → Whole (joined_below v) all → Next (member of) 128 v u → Whole (joined_below u) all
+  pub join_past : {v u all : ℕ} → Whole (joined_below v) all → Next (member of) 128 v u → Whole (joined_below u) all
   unfolding joined_below
   join_past {v} {u} w n = whole_same (λ y l. some_past v u (λ t. member of t && bit_at row t y) n.from (λ t a b. rw (n.none t a b))) w
 

@@ -44,7 +44,7 @@ unfolding read_in read_head then_lines as_line
 wrong_first form text e = rw e
 
 -- A text of the form that it is to be moved to.
-other_two : (text : List ℕ) → form_of text ≡ Two → read_in One text ≡ wrong_from text
+pub other_two : (text : List ℕ) → form_of text ≡ Two → read_in One text ≡ wrong_from text
 unfolding form_of expect pack_line
 other_two text e = go (expect (pack_line Two) [] text) refl
   where
@@ -52,7 +52,7 @@ other_two text e = go (expect (pack_line Two) [] text) refl
     go wrong f = let z : One ≡ Two = sym (simp (form_of, f)) ∙ e in let y : ◌≡◌ {A = ℕ} 0 1 = cc in absurd (omega arith)
     go (took w rest) f = rw (← (expect_told (pack_line Two) [] text w rest f).1) (wrong_first One (pack_line Two ++ rest) refl)
 
-other_one : (text : List ℕ) → form_of text ≡ One → read_in Two text ≡ wrong_from text
+pub other_one : (text : List ℕ) → form_of text ≡ One → read_in Two text ≡ wrong_from text
 unfolding form_of
 other_one text e = go (expect (pack_line Two) [] text) refl
   where

@@ -1,5 +1,5 @@
 use Rattle.std.proofs.Common.{◌≤◌, arith}
-use Rattle.index.proofs.Begins.{eight_more, next_below, next_each, entry_tells}
+use Rattle.index.proofs.Begins.{eight_more, next_below, next_each, entry_made}
 use Rattle.index.proofs.entry.Goals as goal
 
 pub loop-j-preserved : goal.loop-j-preserved
@@ -19,4 +19,4 @@ loop-j-preserved c =
 pub returns : goal.returns
 returns c =
     let v = c.loop-j.invariant in
-    entry_tells _ c.requires.ready.laid _ _ _ _ c.begun-base.ensures.0 c.loop-j-test.false c.loop-j.auto.j-end v.small v.each
+    entry_made _ c.requires.ready.laid _ _ _ _ c.begun-base.ensures.0 c.loop-j-test.false c.loop-j.auto.j-end v.small v.each
