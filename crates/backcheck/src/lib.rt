@@ -1,7 +1,7 @@
 // K5, the condition on the ways back: its test, and the search for the first parse state and production at which it fails.
 #![tactic(auto)]
 
-ghost use Rattle.std.specs.Prelude.{◌≡◌, true, ◌<◌, ◌≤◌};
+ghost use Rattle.std.specs.Prelude.{◌≡◌, true, ◌<◌, ◌≤◌, length};
 ghost use Rattle.pack.specs.Image.{most_symbols, states, productions};
 ghost use Rattle.pack.specs.Laid.{Laid};
 ghost use Rattle.numbers.specs.Verdicts.{Good};
@@ -53,7 +53,8 @@ fn row5(
     requires s_bound { s < states img.now }
     requires edge_tables { (Sources img.now (states img.now) from.now) × (Carried img.now (states img.now) on.now) }
     requires goers { Goers img.now (states img.now) goes.now }
-    ensures { finding_of result ≡ in_row (test c5 img.now s) s (productions img.now) 0 }
+    ensures value { finding_of result ≡ in_row (test c5 img.now s) s (productions img.now) 0 }
+    ensures lengths_after { (length walk.new.back ≡ 128) × (length walk.new.into ≡ 128) }
 {
     let by = edges::reductions(img, s);
     walk.back[0] = NumberSet::of(s);

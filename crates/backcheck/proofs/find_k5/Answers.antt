@@ -12,13 +12,13 @@ pub returns-in-Some : goal.returns-in-Some
 unfolding finding_of is_fails
 returns-in-Some c =
     let l : c.loop-s.s < states c.args.img.now = omega arith in
-    sym (c.loop-s.invariant ∙ found_hit _ _ _ l _ _ c.in-Some.ensures refl)
+    sym (c.loop-s.invariant ∙ found_hit _ _ _ l _ _ c.in-Some.ensures.value refl)
 
 pub loop-s-preserved : goal.loop-s-preserved
 unfolding finding_of is_fails
 loop-s-preserved c =
     let l : c.loop-s.s < states c.args.img.now = omega arith in
-    c.loop-s.invariant ∙ found_on _ _ _ l _ _ c.in_default.ensures refl
+    c.loop-s.invariant ∙ found_on _ _ _ l _ _ c.in_default.ensures.value refl
 
 pub returns : goal.returns
 unfolding finding_of

@@ -33,15 +33,15 @@ loop-p-preserved c =
       same = c.loop-p.invariant.same ∙ laws.row_past _ _ _ c.reductions-by.ensures next.1 ∙ in_row_on _ _ _ _ m (sym t.0 ∙ c.if-not-production.false);
     }
 
-pub returns-then-not-production : goal.returns-then-not-production
+pub returns-then-not-production-clause-value : goal.returns-then-not-production-clause-value
 unfolding test finding_of
-returns-then-not-production c =
+returns-then-not-production-clause-value c =
     let next = c.in-Some.ensures in
     let e = laws.reduces_by _ _ c.reductions-by.ensures next.1 next.0 in
     let m = laws.reduced _ _ _ c.requires.good_shape c.requires.s_bound e in
     sym (c.loop-p.invariant.same ∙ laws.row_past _ _ _ c.reductions-by.ensures next.1 ∙ in_row_hit _ _ _ _ m (sym c.production.ensures.0 ∙ c.if-not-production.true))
 
-pub returns : goal.returns
+pub returns-clause-value : goal.returns-clause-value
 unfolding finding_of
-returns c =
+returns-clause-value c =
     sym (c.loop-p.invariant.same ∙ laws.row_past _ _ _ c.reductions-by.ensures c.in_default.ensures ∙ in_row_end _ _ _ _ c.requires.laid.sized.p_most)
