@@ -43,7 +43,7 @@ impl NumberSet {
 
     // The set of one number below 64. It is made in its half of the bits, and `next` looks in one half at a time: shifts of all 128 bits are
     // slower.
-    pub fn of_low(n: usize) -> Self
+    pub(crate) fn of_low(n: usize) -> Self
         requires { n < 64 }
         ensures { Whole (λ y. eqb y n) result }
     {
@@ -53,7 +53,7 @@ impl NumberSet {
     }
 
     // The set of 64 + n alone.
-    pub fn of_high(n: usize) -> Self
+    pub(crate) fn of_high(n: usize) -> Self
         requires { n < 64 }
         ensures { Whole (λ y. eqb y (64 + n)) result }
     {
@@ -169,7 +169,7 @@ pub fn next_in(terminals: u64, from: usize) -> Option<usize>
 
 // Puts the one number of `one` into set `to` of the row, where one is given.
 #[tactic(auto, using(crate::proofs::RowLaws::put_none, crate::proofs::RowLaws::put_one), unfolding(crate::specs::Rows::cell_of))]
-pub fn put_one(row: &mut [NumberSet; 128], to: Option<usize>, one: NumberSet)
+pub(crate) fn put_one(row: &mut [NumberSet; 128], to: Option<usize>, one: NumberSet)
     requires { cell_of to ≤ 128 }
     ensures { (b : ℕ) → Whole (λ y. eqb y b) one → Put row.old (cell_of to) b row.new }
 {
